@@ -1,0 +1,160 @@
+-- Demand 2: what "equal" and "differs" say, for every meaning and every starting content.
+use Prim.Native.Nat.{ℕ, zero, suc, _+_, _≤_, _<_}
+use native.Mathlib.Omega.{arith}
+use mathlib.Core.Path.{_≡_, refl, sym, ap, ap₂, _∙_, subst}
+use mathlib.Core.Logic.{_⊎_, inl, inr, _↔_}
+use mathlib.Core.List.{List, [], _∷_}
+use mathlib.Core.Bool.{Bool, true, false, _&&_, _||_, cond, false≢true, true≢false, and-eq-true-iff, or-false}
+use lib.Dec.{eqb, leb}
+use borrow.Author.Tests.{eqb-true, leb-true, leb-false}
+use Rattle.model.specs.Tables.{Array, arrayAt, starts, inside}
+use Rattle.model.specs.Update.{Tree, Listed}
+use Rattle.model.specs.Update.Tree.{cell}
+use Rattle.model.specs.Reply.{Reply, equal, differs, refused, both, isRefused}
+use Rattle.terms.specs.Term.{same, termCount}
+use Rattle.terms.proofs.Same.{same-sound, same-complete}
+use Rattle.unroller.specs.Allowed.{localsLast, readAll}
+use Rattle.comparer.specs.Meaning.{valueOf, after, free}
+use Rattle.comparer.specs.Match.{compared, comparedSize, firstDifference, agreeAt, writtenTerms, matched, sameTable, sameArray, nonLocal, operatorsReply, listsReply}
+use Rattle.comparer.specs.Told.{Compared, Agree, Apart, Earlier, FirstApart, Told}
+use Rattle.comparer.proofs.Values.{after-law}
+use Rattle.comparer.proofs.Alike.{after-alike}
+use Rattle.comparer.proofs.First.{comparedIn, ElementAt, ElementNone, first-difference}
+use Rattle.comparer.proofs.SameTables.{sameArray-sound, tables-cases, non-local-role, started-shared, compared-shared}
+
+le-or-lt : (m n : ℕ) → (m ≤ n) ⊎ (n < m)
+le-or-lt m n = go (leb m n) refl
+  where
+    go : (b : Bool) → leb m n ≡ b → (m ≤ n) ⊎ (n < m)
+    go true e = inl (leb-true m n e)
+    go false e = inr (leb-false m n e)
+
+-- what demand 2 rests on: every allowed list has it, and every list that a run gives
+pub record Sound (l : Listed) : Type 0 where
+  pub ordered : localsLast false (l .tables .arrays) ≡ true
+  pub reads : readAll (l .tables .arrays) [] (l .updates) ≡ true
+
+-- 22, 23 and 24 have a yes
+pub record Passed (mask : ℕ) (l r : Listed) : Type 0 where
+  pub arrays : nonLocal (l .tables .arrays) ≡ nonLocal (r .tables .arrays)
+  pub operators : l .tables .arities ≡ r .tables .arities
+  pub terms : leb (termCount (writtenTerms l r)) 4096 ≡ true
+
+abbrev pub found : ℕ → Listed → Listed → Reply
+found mask l r = firstDifference mask 0 (l .tables .arrays) (agreeAt l r) (equal (comparedSize mask 0 (l .tables .arrays)))
+
+module _ (mask : ℕ) (l r : Listed) where
+  never : {A : Type 0} (s : Reply) → isRefused s ≡ false → isRefused s ≡ true → A
+  never s p q = absurd (false≢true (sym p ∙ q))
+
+  passed : isRefused (listsReply mask l r) ≡ false → Passed mask l r × (listsReply mask l r ≡ found mask l r)
+  unfolding listsReply
+  passed n = arrays (tables-cases sameArray sameArray-sound 22 operators 0 (nonLocal (l .tables .arrays)) (nonLocal (r .tables .arrays)))
+    where
+      operators : Reply
+      operators = operatorsReply mask l r
+
+      few : Bool
+      few = leb (termCount (writtenTerms l r)) 4096
+
+      terms : nonLocal (l .tables .arrays) ≡ nonLocal (r .tables .arrays) → l .tables .arities ≡ r .tables .arities → listsReply mask l r ≡ matched mask l r
+          → (b : Bool) → few ≡ b → matched mask l r ≡ cond b (found mask l r) (refused both 24 0) → Passed mask l r × (listsReply mask l r ≡ found mask l r)
+      terms p q e true f g = (record { arrays = p; operators = q; terms = f }, e ∙ g)
+      terms p q e false f g = never (listsReply mask l r) n (ap isRefused (e ∙ g))
+
+      arities : nonLocal (l .tables .arrays) ≡ nonLocal (r .tables .arrays) → listsReply mask l r ≡ operators
+          → ((l .tables .arities ≡ r .tables .arities) × (operators ≡ matched mask l r)) ⊎ ((j : ℕ) × (operators ≡ refused both 23 j)) → Passed mask l r × (listsReply mask l r ≡ found mask l r)
+      arities p e (inl q) = terms p (q .0) (e ∙ q .1) few refl refl
+      arities p e (inr q) = never (listsReply mask l r) n (ap isRefused (e ∙ q .1))
+
+      arrays : ((nonLocal (l .tables .arrays) ≡ nonLocal (r .tables .arrays)) × (listsReply mask l r ≡ operators)) ⊎ ((j : ℕ) × (listsReply mask l r ≡ refused both 22 j))
+          → Passed mask l r × (listsReply mask l r ≡ found mask l r)
+      arrays (inl p) = arities (p .0) (p .1) (tables-cases eqb eqb-true 23 (matched mask l r) 0 (l .tables .arities) (r .tables .arities))
+      arrays (inr p) = never (listsReply mask l r) n (ap isRefused (p .1))
+
+  same-role : Sound l → Sound r → Passed mask l r → (a : ℕ) → arrayAt (l .tables .arrays) a .role ≡ arrayAt (r .tables .arrays) a .role
+  same-role p q y a = sym (non-local-role false (l .tables .arrays) (p .ordered) a) ∙ ap (λ (xs : List Array). arrayAt xs a .role) (y .arrays) ∙ non-local-role false (r .tables .arrays) (q .ordered) a
+
+  agree-true : Sound l → Sound r → Passed mask l r → (a e : ℕ) → Compared mask l a e → agreeAt l r a e ≡ true → Agree l r a e
+  agree-true p q y a e at s S m h k shared =
+      after-law m h (l .updates) a e
+      ∙ ap (λ (t : Tree). valueOf m t h) (same-sound (after free (l .updates) cell a e) (after free (r .updates) cell a e) s)
+      ∙ sym (after-law m h (r .updates) a e)
+      ∙ after-alike m (r .tables .arrays) (r .updates) [] h k (λ b d f. shared b d (started-shared (arrayAt (l .tables .arrays) b) (rw (same-role p q y b) (sym (or-false (starts (arrayAt (r .tables .arrays) b))) ∙ f)))) (q .reads) a e
+      (λ f. shared a e (compared-shared mask a (arrayAt (l .tables .arrays) a) (and-eq-true-iff (compared mask a (arrayAt (l .tables .arrays) a)) (inside (l .tables .arrays) a e) .0 at .0)))
+
+  true-agree : (a e : ℕ) → Agree l r a e → agreeAt l r a e ≡ true
+  true-agree a e g = same-complete (after free (l .updates) cell a e) (after free (r .updates) cell a e) (g Tree free cell cell (λ b d f. refl))
+
+  apart-false : (a e : ℕ) → agreeAt l r a e ≡ false → Apart l r a e
+  apart-false a e f = record { S = Tree; meaning = free; one = cell; other = cell; shared = λ b d g. refl; apart = λ g. true≢false (sym (same-complete (after free (l .updates) cell a e) (after free (r .updates) cell a e) g) ∙ f) }
+
+  not-apart : (a e : ℕ) → Agree l r a e → Apart l r a e → ⊥
+  not-apart a e g p = p .apart (g (p .S) (p .meaning) (p .one) (p .other) (p .shared))
+
+  told : Sound l → Sound r → Passed mask l r → listsReply mask l r ≡ found mask l r
+      → ElementNone (l .tables .arrays) 0 mask (agreeAt l r) (equal (comparedSize mask 0 (l .tables .arrays))) (found mask l r) ⊎ ElementAt (l .tables .arrays) 0 mask (agreeAt l r) (found mask l r)
+      → Told mask l r (listsReply mask l r)
+  told p q y f (inl z) = record {
+    same = λ n. (λ e. (count n e, all), λ g. is ∙ ap equal (sym (g .0)));
+    other = λ a e. (λ d. absurd (crash a e d), λ g. absurd (not-apart a e (all a e (g .0)) (g .1)));
+  }
+    where
+      is : listsReply mask l r ≡ equal (comparedSize mask 0 (l .tables .arrays))
+      is = f ∙ z .is
+
+      count : (n : ℕ) → listsReply mask l r ≡ equal n → n ≡ comparedSize mask 0 (l .tables .arrays)
+      count n e = cc is
+
+      all : (a e : ℕ) → Compared mask l a e → Agree l r a e
+      all a e c = agree-true p q y a e c (z .all a a e (omega arith) c)
+
+      crash : (a e : ℕ) → listsReply mask l r ≡ differs a e → ⊥
+      crash a e d = let w : _≡_ {A = ℕ} 0 1 = cc is in omega arith
+  told p q y f (inr z) = record {
+    same = λ n. (λ e. absurd (crash n e), λ g. absurd (not-apart (z .a) (z .e) (g .1 (z .a) (z .e) here) apart));
+    other = λ a e. (λ d. move a e d, λ g. place a e g);
+  }
+    where
+      is : listsReply mask l r ≡ differs (z .a) (z .e)
+      is = f ∙ z .is
+
+      crash : (n : ℕ) → listsReply mask l r ≡ equal n → ⊥
+      crash n d = let w : _≡_ {A = ℕ} 0 1 = cc is in omega arith
+
+      here : Compared mask l (z .a) (z .e)
+      here = let w : z .i ≡ z .a = (let v = z .at in omega arith) in subst (λ (i : ℕ). comparedIn mask (z .a) (arrayAt (l .tables .arrays) i) (z .e) ≡ true) w (z .inside)
+
+      apart : Apart l r (z .a) (z .e)
+      apart = apart-false (z .a) (z .e) (z .differ)
+
+      before : (b d : ℕ) → Compared mask l b d → Earlier b d (z .a) (z .e) → Agree l r b d
+      before b d c w = agree-true p q y b d c (z .before b b d (omega arith) c w)
+
+      first : FirstApart mask l r (z .a) (z .e)
+      first = (here, apart, before)
+
+      move : (a e : ℕ) → listsReply mask l r ≡ differs a e → FirstApart mask l r a e
+      move a e d =
+          let v : z .a ≡ a = cc is in
+          let w : z .e ≡ e = cc is in
+          subst (λ (i : ℕ). FirstApart mask l r i e) v (subst (λ (i : ℕ). FirstApart mask l r (z .a) i) w first)
+
+      place : (a e : ℕ) → FirstApart mask l r a e → listsReply mask l r ≡ differs a e
+      place a e g = columns (le-or-lt a (z .a)) (le-or-lt (z .a) a) (le-or-lt e (z .e)) (le-or-lt (z .e) e)
+        where
+          sooner : Earlier a e (z .a) (z .e) → ⊥
+          sooner w = not-apart a e (before a e (g .0) w) (g .1)
+
+          later : Earlier (z .a) (z .e) a e → ⊥
+          later w = not-apart (z .a) (z .e) (g .2 (z .a) (z .e) here w) apart
+
+          columns : (a ≤ z .a) ⊎ (z .a < a) → (z .a ≤ a) ⊎ (a < z .a) → (e ≤ z .e) ⊎ (z .e < e) → (z .e ≤ e) ⊎ (e < z .e) → listsReply mask l r ≡ differs a e
+          columns (inr x) u v w = absurd (later (inl x))
+          columns (inl x) (inr u) v w = absurd (sooner (inl u))
+          columns (inl x) (inl u) (inr v) w = absurd (later (inr (omega arith, v)))
+          columns (inl x) (inl u) (inl v) (inr w) = absurd (sooner (inr (omega arith, w)))
+          columns (inl x) (inl u) (inl v) (inl w) = is ∙ ap₂ differs (omega arith) (omega arith)
+
+  pub demand2 : Sound l → Sound r → isRefused (listsReply mask l r) ≡ false → Told mask l r (listsReply mask l r)
+  demand2 p q n = let y = passed n in told p q (y .0) (y .1) (first-difference mask (agreeAt l r) (equal (comparedSize mask 0 (l .tables .arrays))) (l .tables .arrays) 0)

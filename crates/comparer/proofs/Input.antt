@@ -1,0 +1,63 @@
+-- Framed input: what a frame means, and that a cut behind byte 32,771 changes no reply.
+use Prim.Native.Nat.{ℕ, zero, suc, _+_, _-_, _*_, _/_, _%_, _≤_, _<_}
+use native.Mathlib.Omega.{arith}
+use mathlib.Core.Path.{_≡_, refl, sym, ap, ap₂, _∙_}
+use mathlib.Core.List.{List, [], _∷_, _++_}
+use mathlib.Core.Bool.{Bool, true, false}
+use lib.ListN.{length, getD, take, drop, length-append, length-take, length-drop}
+use lib.Seq.{take-append-seam, drop-append-seam, take-take, take-all}
+use lib.Dec.{leb}
+use borrow.Author.Tests.{leb-true, leb-false, le-leb, lt-leb}
+use Rattle.model.specs.Test.{if_then_else_}
+use Rattle.model.specs.Update.{Listed}
+use Rattle.model.specs.Reply.{Reply, refused, left, right, input}
+use Rattle.reader.specs.Field.{littleEndian, no}
+use Rattle.reader.specs.Grammar.{readProgram}
+use Rattle.unroller.specs.Run.{Ran, ok, stop}
+use Rattle.unroller.specs.Unroll.{unrolledBy, unrolled}
+use Rattle.comparer.specs.Match.{listsReply}
+use Rattle.comparer.specs.Entry.{sideReply, programsReply, allBits, framedReply, inputReply}
+use Rattle.comparer.specs.Rows.{framed}
+use Rattle.comparer.specs.Claims.{InputCut}
+
+-- a frame around two programs, the left within its limit
+pub framed-programs : (l r : List ℕ) → length l ≤ 16384 → inputReply (framed l r) ≡ programsReply allBits l r
+unfolding inputReply
+framed-programs l r h =
+    let n : length l % 256 + 256 * (length l / 256 + 256 * 0) ≡ length l = omega arith in
+    let e = length-append l r in
+    rw (le-leb 2 (length (framed l r)) (omega arith), n, le-leb (length l) 16384 h, le-leb (length l) (length (l ++ r)) (omega arith), take-append-seam l r, drop-append-seam l r)
+
+-- a program that is too long is refused with 2
+too-long : (s : List ℕ) → 16384 < length s → unrolled s ≡ stop 2 0
+unfolding unrolled readProgram
+too-long s h = rw (lt-leb (length s) 16384 h)
+
+-- two right sides that are both too long get the same reply
+both-long : (mask : ℕ) (l r q : List ℕ) → 16384 < length r → 16384 < length q → programsReply mask l r ≡ programsReply mask l q
+unfolding programsReply
+both-long mask l r q h k = rw (too-long r h, too-long q k)
+
+-- the bytes behind the left length, cut so that a right of 16,385 bytes still fits behind the longest left
+framed-cut : (n : ℕ) (t : List ℕ) → framedReply n (take 32769 t) ≡ framedReply n t
+framed-cut n t = go (leb (length t) 32769) refl (leb n 16384) refl
+  where
+    go : (short : Bool) → leb (length t) 32769 ≡ short → (small : Bool) → leb n 16384 ≡ small → framedReply n (take 32769 t) ≡ framedReply n t
+    go true e small f = ap (framedReply n) (take-all 32769 t (leb-true (length t) 32769 e))
+    go false e false f = rw f
+    go false e true f =
+        let h = leb-false (length t) 32769 e in
+        let k = leb-true n 16384 f in
+        let p = length-take 32769 t in
+        let c : length (take 32769 t) ≡ 32769 = omega arith in
+        let a = length-drop n t in
+        let b = length-drop n (take 32769 t) in
+        rw (f, le-leb n (length (take 32769 t)) (omega arith), le-leb n (length t) (omega arith), take-take n 32769 t (omega arith))
+        (both-long allBits (take n t) (drop n (take 32769 t)) (drop n t) (omega arith) (omega arith))
+
+pub input-cut : InputCut
+unfolding inputReply
+input-cut [] = refl
+input-cut (a ∷ []) = refl
+input-cut (a ∷ b ∷ t) =
+    rw (le-leb 2 (length (take 32771 (a ∷ b ∷ t))) (omega arith), le-leb 2 (length (a ∷ b ∷ t)) (omega arith)) (framed-cut (a + 256 * (b + 256 * 0)) t)

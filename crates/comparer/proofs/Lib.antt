@@ -1,0 +1,11 @@
+pub mod Values
+pub mod First
+pub mod Alike
+pub mod SameTables
+pub mod Demand2
+pub mod Reorder
+pub mod Positions
+pub mod KeptLists
+pub mod Theorems
+pub mod Input
+pub mod Table

@@ -1,0 +1,84 @@
+-- Where 22 and 23 have a yes the tables agree, and where locals come last each array number has the same role on both sides.
+use Prim.Native.Nat.{ℕ, zero, suc}
+use mathlib.Core.Path.{_≡_, refl, sym, ap₂}
+use mathlib.Core.Logic.{_⊎_, inl, inr}
+use mathlib.Core.List.{List, [], _∷_}
+use mathlib.Core.Bool.{Bool, true, false, _&&_, _||_, not, cond, false≢true, and-eq-true-iff}
+use lib.Dec.{eqb}
+use borrow.Author.Tests.{eqb-true}
+use Rattle.model.specs.Tables.{Array, arrayAt, local, starts}
+use Rattle.model.specs.Reply.{Reply, refused, both}
+use Rattle.unroller.specs.Allowed.{localsLast}
+use Rattle.comparer.specs.Match.{bit, compared, sameNumbers, sameArray, nonLocal, sameTable}
+
+sameNumbers-sound : (xs ys : List ℕ) → sameNumbers xs ys ≡ true → xs ≡ ys
+sameNumbers-sound [] [] e = refl
+sameNumbers-sound [] (y ∷ ys) e = absurd (false≢true e)
+sameNumbers-sound (x ∷ xs) [] e = absurd (false≢true e)
+sameNumbers-sound (x ∷ xs) (y ∷ ys) e = let p = and-eq-true-iff (eqb x y) (sameNumbers xs ys) .0 e in ap₂ {C = List ℕ} _∷_ (eqb-true x y (p .0)) (sameNumbers-sound xs ys (p .1))
+
+pub sameArray-sound : (x y : Array) → sameArray x y ≡ true → x ≡ y
+sameArray-sound x y e =
+    let p = and-eq-true-iff (eqb (x .role) (y .role)) (sameNumbers (x .extents) (y .extents)) .0 e in
+    let f : x .role ≡ y .role = eqb-true (x .role) (y .role) (p .0) in
+    let g : x .extents ≡ y .extents = sameNumbers-sound (x .extents) (y .extents) (p .1) in
+    λ i. record { role = f i; extents = g i }
+
+module _ {A : Type 0} (alike : A → A → Bool) (sound : (x y : A) → alike x y ≡ true → x ≡ y) (question : ℕ) (agreed : Reply) where
+  pub tables-cases : (k : ℕ) (xs ys : List A) → ((xs ≡ ys) × (sameTable alike question agreed k xs ys ≡ agreed)) ⊎ ((j : ℕ) × (sameTable alike question agreed k xs ys ≡ refused both question j))
+  tables-cases k [] [] = inl (refl, refl)
+  tables-cases k [] (y ∷ ys) = inr (k, refl)
+  tables-cases k (x ∷ xs) [] = inr (k, refl)
+  tables-cases k (x ∷ xs) (y ∷ ys) = go (alike x y) refl (tables-cases (suc k) xs ys)
+    where
+      go : (b : Bool) → alike x y ≡ b → ((xs ≡ ys) × (sameTable alike question agreed (suc k) xs ys ≡ agreed)) ⊎ ((j : ℕ) × (sameTable alike question agreed (suc k) xs ys ≡ refused both question j))
+          → ((x ∷ xs ≡ y ∷ ys) × (cond (alike x y) (sameTable alike question agreed (suc k) xs ys) (refused both question k) ≡ agreed))
+          ⊎ ((j : ℕ) × (cond (alike x y) (sameTable alike question agreed (suc k) xs ys) (refused both question k) ≡ refused both question j))
+      go true e (inl p) = inl (ap₂ {C = List A} _∷_ (sound x y e) (p .0), rw e (p .1))
+      go true e (inr p) = inr (p .0, rw e (p .1))
+      go false e p = inr (k, rw e)
+
+abbrev allLocal : List Array → Bool
+allLocal [] = true
+allLocal (x ∷ xs) = local x && allLocal xs
+
+after-local : (xs : List Array) → localsLast true xs ≡ true → allLocal xs ≡ true
+after-local [] e = refl
+after-local (x ∷ xs) e =
+    let p = and-eq-true-iff (local x) (localsLast (local x) xs) .0 e in
+    and-eq-true-iff (local x) (allLocal xs) .1 (p .0, after-local xs (rw (p .0) at (p .1)))
+
+all-local : (xs : List Array) (a : ℕ) → allLocal xs ≡ true → arrayAt xs a .role ≡ 3
+all-local [] a e = refl
+all-local (x ∷ xs) zero e = eqb-true (x .role) 3 (and-eq-true-iff (local x) (allLocal xs) .0 e .0)
+all-local (x ∷ xs) (suc a) e = all-local xs a (and-eq-true-iff (local x) (allLocal xs) .0 e .1)
+
+non-local-none : (xs : List Array) → allLocal xs ≡ true → nonLocal xs ≡ []
+non-local-none [] e = refl
+non-local-none (x ∷ xs) e = let p = and-eq-true-iff (local x) (allLocal xs) .0 e in rw (p .0) (non-local-none xs (p .1))
+
+pub non-local-role : (after : Bool) (xs : List Array) → localsLast after xs ≡ true → (a : ℕ) → arrayAt (nonLocal xs) a .role ≡ arrayAt xs a .role
+non-local-role after [] e a = refl
+non-local-role after (x ∷ xs) e a = let p = and-eq-true-iff (not after || local x) (localsLast (local x) xs) .0 e in go (local x) refl a (p .1) (non-local-role (local x) xs (p .1))
+  where
+    go : (b : Bool) → local x ≡ b → (a : ℕ) → localsLast (local x) xs ≡ true → ((a : ℕ) → arrayAt (nonLocal xs) a .role ≡ arrayAt xs a .role)
+        → arrayAt (cond (local x) (nonLocal xs) (x ∷ nonLocal xs)) a .role ≡ arrayAt (x ∷ xs) a .role
+    go true f zero p ih = let q : allLocal xs ≡ true = after-local xs (rw f at p) in rw (f, non-local-none xs q) (sym (eqb-true (x .role) 3 f))
+    go true f (suc a) p ih = let q : allLocal xs ≡ true = after-local xs (rw f at p) in rw (f, non-local-none xs q) (sym (all-local xs a q))
+    go false f zero p ih = rw f
+    go false f (suc a) p ih = rw f (ih a)
+
+-- a role that is one of two others is not local
+not-local : (i j role : ℕ) → eqb i 3 ≡ false → eqb j 3 ≡ false → (eqb role i || eqb role j) ≡ true → eqb role 3 ≡ false
+not-local i j role p q e = go (eqb role i) refl (eqb role j) refl e
+  where
+    go : (b : Bool) → eqb role i ≡ b → (c : Bool) → eqb role j ≡ c → (b || c) ≡ true → eqb role 3 ≡ false
+    go true f c g e′ = rw (eqb-true role i f) p
+    go false f true g e′ = rw (eqb-true role j g) q
+    go false f false g e′ = absurd (false≢true e′)
+
+pub started-shared : (x : Array) → starts x ≡ true → local x ≡ false
+started-shared x e = not-local 0 2 (x .role) refl refl e
+
+pub compared-shared : (mask a : ℕ) (x : Array) → compared mask a x ≡ true → local x ≡ false
+compared-shared mask a x e = not-local 1 2 (x .role) refl refl (and-eq-true-iff (eqb (x .role) 1 || eqb (x .role) 2) (bit mask a) .0 e .0)

@@ -1,0 +1,199 @@
+-- The claims of specs/Claims.antt, proved of the definitions.
+use Prim.Native.Nat.{ℕ, zero, suc, _+_, _-_, _*_, _/_, _%_, _≤_, _<_}
+use native.Mathlib.Omega.{arith}
+use mathlib.Core.Path.{_≡_, refl, sym, ap, ap₂, _∙_, subst}
+use mathlib.Core.Logic.{_↔_, _⊎_, inl, inr}
+use mathlib.Core.List.{List, [], _∷_, _++_, map}
+use mathlib.Core.Option.{Option, none, some}
+use mathlib.Core.Bool.{Bool, true, false, _&&_, _||_, not, false≢true, true≢false, or-false}
+use lib.ListN.{length}
+use lib.Dec.{leb, eqb}
+use borrow.Author.Tests.{eq-eqb}
+use Rattle.model.specs.Test.{if_then_else_}
+use Rattle.model.specs.Tables.{Array, arrayAt, local, starts}
+use Rattle.model.specs.Update.{Listed, written}
+use Rattle.model.specs.Reply.{Reply, Side, equal, differs, refused, left, right, both, isRefused}
+use Rattle.unroller.specs.Run.{Ran, ok, stop}
+use Rattle.unroller.specs.Allowed.{allowed}
+use Rattle.unroller.specs.Layout.{layout}
+use Rattle.unroller.specs.Decode.{decode, accepted}
+use Rattle.unroller.specs.Unroll.{unrolled}
+use Rattle.unroller.proofs.Parts.{list-parts}
+use Rattle.unroller.proofs.Encode.{decode-layout}
+use Rattle.unroller.proofs.Inverse.{layout-decode, layout-injective as injective}
+use Rattle.unroller.proofs.Laws.{accepted-sound, accepted-complete, layout-length, decoded-fit, layout-same}
+use Rattle.unroller.proofs.Runs.{unrolled-last, unrolled-reads}
+use Rattle.model.specs.Update.Tree.{cell}
+use Rattle.terms.specs.Term.{termCount}
+use Rattle.terms.proofs.Same.{same-refl}
+use Rattle.comparer.specs.Meaning.{Meaning, Content, after, free}
+use Rattle.comparer.specs.Match.{comparedSize, firstDifference, agreeAt, writtenTerms, matched, sameNumbers, sameArray, nonLocal, sameTable, operatorsReply, listsReply}
+use Rattle.comparer.specs.Entry.{decodedReply, enough, entryReply, wordsReply, sideReply, programsReply}
+use Rattle.comparer.specs.Told.{Shared, Told}
+use Rattle.comparer.specs.Order.{NewOrder, reorder}
+use Rattle.comparer.specs.Claims.{Demand2Lists, ToldOf, Demand2Words, Demand2Programs, Kept, Demand3, LayoutRead, LayoutOnly, LayoutInjective, LayoutFits, Question26, FreeStandsForAll, NeverApartFromItself}
+use Rattle.comparer.proofs.Values.{meaning-of-value}
+use Rattle.comparer.proofs.Alike.{after-alike}
+use Rattle.comparer.proofs.SameTables.{started-shared}
+use Rattle.comparer.proofs.First.{ElementAt, ElementNone, first-difference}
+use Rattle.comparer.proofs.Demand2.{Sound, demand2}
+use Rattle.comparer.proofs.KeptLists.{KeptLists, reordered-kept}
+
+allowed-sound : (l : Listed) → allowed l ≡ true → Sound l
+allowed-sound l e = let p = list-parts l e in record { ordered = p .tables-allowed .order; reads = p .reads }
+
+pub demand2-lists : Demand2Lists
+demand2-lists mask l r p q n = demand2 mask l r (allowed-sound l p) (allowed-sound r q) n
+
+pub layout-read : LayoutRead
+layout-read = decode-layout
+
+pub layout-only : LayoutOnly
+layout-only = layout-decode
+
+pub layout-injective : LayoutInjective
+layout-injective = injective
+
+pub layout-fits : LayoutFits
+layout-fits = layout-length
+
+pub question26 : Question26
+question26 w = (accepted-sound w, λ p. subst (λ (v : List ℕ). accepted v ≡ true) (sym (p .2)) (accepted-complete (p .0) (length w) (p .1)))
+
+pub free-stands-for-all : FreeStandsForAll
+free-stands-for-all S m h t σ = meaning-of-value m h t σ
+
+-- a reply after 25 that is no refusal
+entered : (long : Bool) (reply : Reply) → isRefused (entryReply long reply) ≡ false → entryReply long reply ≡ reply
+entered true reply n = refl
+entered false reply n = absurd (true≢false n)
+
+pub demand2-words : Demand2Words
+unfolding wordsReply
+demand2-words mask one other cells terms n =
+    let long = enough (length one) (length other) cells terms in
+    let e = entered long (decodedReply mask (decode one) (decode other)) n in
+    go (decode one) refl (decode other) refl e (sym (ap isRefused e) ∙ n)
+  where
+    go : (x : Option Listed) → decode one ≡ x → (y : Option Listed) → decode other ≡ y → wordsReply mask one other cells terms ≡ decodedReply mask x y → isRefused (decodedReply mask x y) ≡ false
+        → ToldOf mask (λ w l. decode w ≡ some l) one other (wordsReply mask one other cells terms)
+    go none p y q e z = absurd (true≢false z)
+    go (some l) p none q e z = absurd (true≢false z)
+    go (some l) p (some r) q e z = record {
+      l = l;
+      r = r;
+      isLeft = p;
+      isRight = q;
+      told = subst (Told mask l r) (sym e) (demand2-lists mask l r (layout-decode one l p .1) (layout-decode other r q .1) z);
+    }
+
+unrolled-sound : (bytes : List ℕ) (l : Listed) → unrolled bytes ≡ ok l → Sound l
+unrolled-sound bytes l e = record { ordered = unrolled-last bytes l e; reads = unrolled-reads bytes l e }
+
+pub demand2-programs : Demand2Programs
+unfolding programsReply
+demand2-programs mask one other n = go (unrolled one) refl (unrolled other) refl refl n
+  where
+    go : (x : Ran Listed) → unrolled one ≡ x → (y : Ran Listed) → unrolled other ≡ y
+        → programsReply mask one other ≡ sideReply left x (λ l. sideReply right y (λ r. listsReply mask l r))
+        → isRefused (sideReply left x (λ l. sideReply right y (λ r. listsReply mask l r))) ≡ false
+        → ToldOf mask (λ p l. unrolled p ≡ ok l) one other (programsReply mask one other)
+    go (stop question place) p y q e z = absurd (true≢false z)
+    go (ok l) p (stop question place) q e z = absurd (true≢false z)
+    go (ok l) p (ok r) q e z = record {
+      l = l;
+      r = r;
+      isLeft = p;
+      isRight = q;
+      told = subst (Told mask l r) (sym e) (demand2 mask l r (unrolled-sound one l p) (unrolled-sound other r q) z);
+    }
+
+-- a cell that is written, or not local, ends alike for contents that agree on non-local arrays
+module _ (l : Listed) (p : allowed l ≡ true) {S : Type 0} (m : Meaning S) (h g : Content S) (shared : Shared l h g) where
+  ends-alike : (a c : ℕ) → (written (l .updates) a c || not (local (arrayAt (l .tables .arrays) a))) ≡ true → after m (l .updates) h a c ≡ after m (l .updates) g a c
+  ends-alike a c e = after-alike m (l .tables .arrays) (l .updates) [] h g readable (allowed-sound l p .reads) a c (λ n. shared a c (unwritten (written (l .updates) a c) (local (arrayAt (l .tables .arrays) a)) n e))
+    where
+      readable : (b d : ℕ) → (starts (arrayAt (l .tables .arrays) b) || false) ≡ true → h b d ≡ g b d
+      readable b d f = shared b d (started-shared (arrayAt (l .tables .arrays) b) (sym (or-false (starts (arrayAt (l .tables .arrays) b))) ∙ f))
+
+      unwritten : (w x : Bool) → w ≡ false → (w || not x) ≡ true → x ≡ false
+      unwritten true x n f = absurd (true≢false n)
+      unwritten false true n f = absurd (false≢true f)
+      unwritten false false n f = refl
+
+pub demand3 : Demand3
+unfolding wordsReply
+demand3 old l e order h = record { accepts = isNew; size = size; leaves = leaves; onLeft = onLeft; onRight = onRight }
+  where
+    new : Listed
+    new = reorder l order
+
+    k : KeptLists l new
+    k = reordered-kept l order h
+
+    was : allowed l ≡ true
+    was = layout-decode old l e .1
+
+    isNew : decode (layout new (length old)) ≡ some new
+    isNew = decode-layout new (length old) (k .accepts ∙ was)
+
+    size : length (layout new (length old)) ≡ length old
+    size = layout-same l new (length old) was (k .accepts ∙ was) (k .count) (k .small) (decoded-fit old l e)
+
+    leaves : (S : Type 0) (m : Meaning S) (h g : Content S) → Shared l h g → (a c : ℕ)
+        → (written (l .updates) a c || not (local (arrayAt (l .tables .arrays) a))) ≡ true → after m (new .updates) h a c ≡ after m (l .updates) g a c
+    leaves S m h g shared a c w = k .leaves S m h a c ∙ ends-alike l was m h g shared a c w
+
+    decodedLeft : (mask : ℕ) (y : Option Listed) → decodedReply mask (some new) y ≡ decodedReply mask (some l) y
+    decodedLeft mask none = refl
+    decodedLeft mask (some r) = k .onLeft mask r
+
+    decodedRight : (mask : ℕ) (x : Option Listed) → decodedReply mask x (some new) ≡ decodedReply mask x (some l)
+    decodedRight mask none = refl
+    decodedRight mask (some r) = k .onRight mask r
+
+    onLeft : (mask : ℕ) (third : List ℕ) (cells terms : ℕ) → wordsReply mask (layout new (length old)) third cells terms ≡ wordsReply mask old third cells terms
+    onLeft mask third cells terms = ap₂ (λ (n : ℕ) (r : Reply). entryReply (enough n (length third) cells terms) r) size
+        (ap (λ (x : Option Listed). decodedReply mask x (decode third)) isNew ∙ decodedLeft mask (decode third) ∙ ap (λ (x : Option Listed). decodedReply mask x (decode third)) (sym e))
+
+    onRight : (mask : ℕ) (third : List ℕ) (cells terms : ℕ) → wordsReply mask third (layout new (length old)) cells terms ≡ wordsReply mask third old cells terms
+    onRight mask third cells terms = ap₂ (λ (n : ℕ) (r : Reply). entryReply (enough (length third) n cells terms) r) size
+        (ap (λ (x : Option Listed). decodedReply mask (decode third) x) isNew ∙ decodedRight mask (decode third) ∙ ap (λ (x : Option Listed). decodedReply mask (decode third) x) (sym e))
+
+-- all arrays of a list beside itself agree, so no element is found
+self-tables : {A : Type 0} (alike : A → A → Bool) → ((x : A) → alike x x ≡ true) → (question : ℕ) (agreed : Reply) (k : ℕ) (xs : List A) → sameTable alike question agreed k xs xs ≡ agreed
+self-tables alike h question agreed k [] = refl
+self-tables alike h question agreed k (x ∷ xs) = rw (h x, self-tables alike h question agreed (suc k) xs)
+
+same-numbers : (xs : List ℕ) → sameNumbers xs xs ≡ true
+same-numbers [] = refl
+same-numbers (x ∷ xs) = rw (eq-eqb x x refl, same-numbers xs)
+
+same-array : (x : Array) → sameArray x x ≡ true
+same-array x = rw (eq-eqb (x .role) (x .role) refl, same-numbers (x .extents))
+
+self-matched : (mask : ℕ) (l : Listed) → listsReply mask l l ≡ matched mask l l
+unfolding listsReply
+self-matched mask l =
+    self-tables sameArray same-array 22 (operatorsReply mask l l) 0 (nonLocal (l .tables .arrays))
+    ∙ self-tables eqb (λ x. eq-eqb x x refl) 23 (matched mask l l) 0 (l .tables .arities)
+
+pub never-apart-from-itself : NeverApartFromItself
+never-apart-from-itself mask l a e d = go (leb (termCount (writtenTerms l l)) 4096) refl (first-difference mask (agreeAt l l) whole (l .tables .arrays) 0)
+  where
+    whole : Reply
+    whole = equal (comparedSize mask 0 (l .tables .arrays))
+
+    found : Reply
+    found = firstDifference mask 0 (l .tables .arrays) (agreeAt l l) whole
+
+    is : matched mask l l ≡ differs a e
+    is = sym (self-matched mask l) ∙ d
+
+    agrees : (b c : ℕ) → agreeAt l l b c ≡ true
+    agrees b c = same-refl (after free (l .updates) cell b c)
+
+    go : (few : Bool) → leb (termCount (writtenTerms l l)) 4096 ≡ few → ElementNone (l .tables .arrays) 0 mask (agreeAt l l) whole found ⊎ ElementAt (l .tables .arrays) 0 mask (agreeAt l l) found → ⊥
+    go false f p = let z : _≡_ {A = Reply} (refused both 24 0) (differs a e) = rw f at is in let y : _≡_ {A = ℕ} 0 1 = cc in omega arith
+    go true f (inl p) = let z : found ≡ differs a e = rw f at is in let y : _≡_ {A = ℕ} 0 1 = cc (p .is) in omega arith
+    go true f (inr p) = false≢true (sym (p .differ) ∙ agrees (p .a) (p .e))

@@ -1,0 +1,101 @@
+-- Every promise of the product about its definitions, each as a named type. README.md says where each is proved.
+-- That each entry's code meets these definitions is its contract.
+use Prim.Native.Nat.{ℕ, _≤_}
+use mathlib.Core.Path.{_≡_}
+use mathlib.Core.Logic.{_↔_}
+use mathlib.Core.List.{List, map}
+use mathlib.Core.Bool.{true, false, _||_, not}
+use mathlib.Core.Option.{Option, some}
+use lib.ListN.{length, take}
+use Rattle.model.specs.Tables.{arrayAt, local}
+use Rattle.model.specs.Update.{Tree, Listed, written}
+use Rattle.model.specs.Reply.{Reply, isRefused}
+use Rattle.unroller.specs.Run.{Ran, ok}
+use Rattle.unroller.specs.Allowed.{allowed}
+use Rattle.unroller.specs.Layout.{layout}
+use Rattle.unroller.specs.Decode.{decode, accepted}
+use Rattle.unroller.specs.Unroll.{unrolled}
+use Rattle.comparer.specs.Meaning.{Meaning, Content, valueOf, after, free}
+use Rattle.comparer.specs.Match.{listsReply}
+use Rattle.comparer.specs.Entry.{wordsReply, programsReply, inputReply}
+use Rattle.comparer.specs.Told.{Shared, Told}
+use Rattle.comparer.specs.Order.{NewOrder, reorder}
+use Rattle.comparer.specs.Rows.{Row, framed, starred}
+
+-- Demand 2 for lists: of two allowed lists, a reply that is no refusal says exactly what every content and meaning say.
+abbrev pub Demand2Lists : Type 1
+Demand2Lists = (mask : ℕ) (l r : Listed) → allowed l ≡ true → allowed r ≡ true → isRefused (listsReply mask l r) ≡ false → Told mask l r (listsReply mask l r)
+
+-- two slices that hold lists, and a reply that is told of these lists
+pub record ToldOf (mask : ℕ) (from : List ℕ → Listed → Type 0) (one other : List ℕ) (reply : Reply) : Type 1 where
+  pub l : Listed
+  pub r : Listed
+  pub isLeft : from one l
+  pub isRight : from other r
+  pub told : Told mask l r reply
+
+-- Demand 2 at the list entry, for any words and slice lengths.
+abbrev pub Demand2Words : Type 1
+Demand2Words =
+    (mask : ℕ) (one other : List ℕ) (cells terms : ℕ) → isRefused (wordsReply mask one other cells terms) ≡ false
+    → ToldOf mask (λ w l. decode w ≡ some l) one other (wordsReply mask one other cells terms)
+
+-- Demand 2 for programs, for any bytes.
+abbrev pub Demand2Programs : Type 1
+Demand2Programs =
+    (mask : ℕ) (one other : List ℕ) → isRefused (programsReply mask one other) ≡ false
+    → ToldOf mask (λ p l. unrolled p ≡ ok l) one other (programsReply mask one other)
+
+-- What a new order keeps: accepted, as long; the same value in each non-local and each written cell, for every content and meaning;
+-- the same reply beside any third slice, on either side, under any mask, with work memory of any lengths.
+pub record Kept (old new : List ℕ) (l k : Listed) : Type 1 where
+  pub accepts : decode new ≡ some k
+  pub size : length new ≡ length old
+  pub leaves : (S : Type 0) (m : Meaning S) (h g : Content S) → Shared l h g → (a c : ℕ)
+      → (written (l .updates) a c || not (local (arrayAt (l .tables .arrays) a))) ≡ true → after m (k .updates) h a c ≡ after m (l .updates) g a c
+  pub onLeft : (mask : ℕ) (third : List ℕ) (cells terms : ℕ) → wordsReply mask new third cells terms ≡ wordsReply mask old third cells terms
+  pub onRight : (mask : ℕ) (third : List ℕ) (cells terms : ℕ) → wordsReply mask third new cells terms ≡ wordsReply mask third old cells terms
+
+-- Demand 3, whole: for words that are accepted, and every new order of their updates that keeps conflicting updates in order.
+abbrev pub Demand3 : Type 1
+Demand3 =
+    (old : List ℕ) (l : Listed) → decode old ≡ some l → (order : List ℕ) → NewOrder (l .updates) order
+    → Kept old (layout (reorder l order) (length old)) l (reorder l order)
+
+-- An allowed list is read back from its layout.
+abbrev pub LayoutRead : Type 0
+LayoutRead = (l : Listed) (n : ℕ) → allowed l ≡ true → decode (layout l n) ≡ some l
+
+-- Words that are read lie as the layout says, and the list is allowed.
+abbrev pub LayoutOnly : Type 0
+LayoutOnly = (w : List ℕ) (l : Listed) → decode w ≡ some l → (w ≡ layout l (length w)) × (allowed l ≡ true)
+
+-- No two lists give the same memory.
+abbrev pub LayoutInjective : Type 0
+LayoutInjective = (l m : Listed) (n k : ℕ) → allowed l ≡ true → allowed m ≡ true → layout l n ≡ layout m k → l ≡ m
+
+-- Each list fits in every slice that is long enough for 25.
+abbrev pub LayoutFits : Type 0
+LayoutFits = (l : Listed) (n : ℕ) → allowed l ≡ true → 30818 ≤ n → length (layout l n) ≡ n
+
+-- Question 26 as the paper asks it: yes for what the layout gives for some allowed list, and for nothing else.
+abbrev pub Question26 : Type 0
+Question26 = (w : List ℕ) → (accepted w ≡ true) ↔ ((l : Listed) × (allowed l ≡ true) × (w ≡ layout l (length w)))
+
+-- No input is answered otherwise for being cut behind byte 32,771, which is what the program reads.
+abbrev pub InputCut : Type 0
+InputCut = (s : List ℕ) → inputReply (take 32771 s) ≡ inputReply s
+
+-- The ten starred rows, for any right-hand bytes where the paper says "any".
+abbrev pub StarredRows : Type 0
+StarredRows = (any : List ℕ) → map (λ (x : Row). inputReply (framed (x .one) (x .other any))) starred ≡ map (λ (x : Row). x .reply) starred
+
+-- The meaning of a term is the meaning of its expression: a value in the free meaning stands for all meanings.
+abbrev pub FreeStandsForAll : Type 1
+FreeStandsForAll =
+    (S : Type 0) (m : Meaning S) (h : Content S) (t : Tree) (σ : Content Tree)
+    → valueOf m (valueOf free t σ) h ≡ valueOf m t (λ a c. valueOf m (σ a c) h)
+
+-- A list beside itself is never told apart.
+abbrev pub NeverApartFromItself : Type 0
+NeverApartFromItself = (mask : ℕ) (l : Listed) (a e : ℕ) → listsReply mask l l ≡ Reply.differs a e → ⊥

@@ -1,0 +1,57 @@
+-- The replies of the entries: two lists in words, two programs, framed input (paper 01, "The questions" and "The program").
+use Prim.Native.Nat.{ℕ, _+_}
+use mathlib.Core.List.{List}
+use mathlib.Core.Bool.{Bool, _&&_}
+use mathlib.Core.Option.{Option, none, some}
+use lib.ListN.{length, take, drop}
+use lib.Dec.{leb}
+use Rattle.model.specs.Test.{if_then_else_}
+use Rattle.model.specs.Update.{Listed}
+use Rattle.model.specs.Reply.{Reply, Side, refused, left, right, both, input}
+use Rattle.model.specs.Memory.{listWords, cellWords, termWords}
+use Rattle.reader.specs.Field.{littleEndian}
+use Rattle.unroller.specs.Run.{Ran, ok, stop}
+use Rattle.unroller.specs.Decode.{decode}
+use Rattle.unroller.specs.Unroll.{unrolled}
+use Rattle.comparer.specs.Match.{listsReply}
+
+-- 26 of the left, 26 of the right, then 22 to 24
+abbrev pub decodedReply : ℕ → Option Listed → Option Listed → Reply
+decodedReply mask none r = refused left 26 0
+decodedReply mask (some l) none = refused right 26 0
+decodedReply mask (some l) (some r) = listsReply mask l r
+
+-- Is every slice long enough? For two lists and work memory of these lengths.
+abbrev pub enough : ℕ → ℕ → ℕ → ℕ → Bool
+enough one other cells terms = leb listWords one && (leb listWords other && (leb cellWords cells && leb termWords terms))
+
+-- a reply, after 25
+abbrev pub entryReply : Bool → Reply → Reply
+entryReply long reply = if long then reply else refused both 25 0
+
+-- two lists in words, with work memory of these lengths
+unfoldable pub wordsReply : ℕ → List ℕ → List ℕ → ℕ → ℕ → Reply
+wordsReply mask l r cells terms = entryReply (enough (length l) (length r) cells terms) (decodedReply mask (decode l) (decode r))
+
+abbrev pub sideReply : Side → Ran Listed → (Listed → Reply) → Reply
+sideReply side (ok l) next = next l
+sideReply side (stop question place) next = refused side question place
+
+-- 2 to 21 of the left, then of the right, then 22 to 24
+unfoldable pub programsReply : ℕ → List ℕ → List ℕ → Reply
+programsReply mask l r = sideReply left (unrolled l) (λ x. sideReply right (unrolled r) (λ y. listsReply mask x y))
+
+-- the plain entry sets all bits
+abbrev pub allBits : ℕ
+allBits = 65535
+
+-- the bytes behind the left length, which is n
+abbrev pub framedReply : ℕ → List ℕ → Reply
+framedReply n s =
+    if leb n 16384
+    then (if leb n (length s) then programsReply allBits (take n s) (drop n s) else refused input 1 0)
+    else refused left 2 0
+
+-- Does the input hold the left length and, if it is at most 16,384, so many bytes? 1. Is the left at most 16,384 bytes, as stated? 2
+unfoldable pub inputReply : List ℕ → Reply
+inputReply s = if leb 2 (length s) then framedReply (littleEndian 2 s 0) (drop 2 s) else refused input 1 0

@@ -1,0 +1,44 @@
+-- What a reply that is no refusal says (demand 2), over every starting content and every meaning.
+use Prim.Native.Nat.{ℕ, _<_}
+use mathlib.Core.Path.{_≡_}
+use mathlib.Core.Logic.{_⊎_, _↔_}
+use mathlib.Core.Bool.{true, false, _&&_}
+use Rattle.model.specs.Tables.{arrayAt, local, inside}
+use Rattle.model.specs.Update.{Listed}
+use Rattle.model.specs.Reply.{Reply, equal, differs}
+use Rattle.comparer.specs.Meaning.{Meaning, Content, after}
+use Rattle.comparer.specs.Match.{compared, comparedSize}
+
+-- cell e of array a is compared
+abbrev pub Compared : ℕ → Listed → ℕ → ℕ → Type 0
+Compared mask l a e = (compared mask a (arrayAt (l .tables .arrays) a) && inside (l .tables .arrays) a e) ≡ true
+
+-- two starting contents, one for each side, the same on all non-local arrays
+abbrev pub Shared : {S : Type 0} → Listed → Content S → Content S → Type 0
+Shared l h k = (a c : ℕ) → local (arrayAt (l .tables .arrays) a) ≡ false → h a c ≡ k a c
+
+-- for every starting content and every meaning both sides leave the same value in this element
+abbrev pub Agree : Listed → Listed → ℕ → ℕ → Type 1
+Agree l r a e = (S : Type 0) (m : Meaning S) (h k : Content S) → Shared l h k → after m (l .updates) h a e ≡ after m (r .updates) k a e
+
+-- some content and meaning tell the sides apart at this element
+pub record Apart (l r : Listed) (a e : ℕ) : Type 1 where
+  pub S : Type 0
+  pub meaning : Meaning S
+  pub one : Content S
+  pub other : Content S
+  pub shared : Shared l one other
+  pub apart : after meaning (l .updates) one a e ≡ after meaning (r .updates) other a e → ⊥
+
+-- by array number, then cell number
+abbrev pub Earlier : ℕ → ℕ → ℕ → ℕ → Type 0
+Earlier b d a e = (b < a) ⊎ ((b ≡ a) × (d < e))
+
+-- the first compared element that some content and meaning tell apart
+abbrev pub FirstApart : ℕ → Listed → Listed → ℕ → ℕ → Type 1
+FirstApart mask l r a e = Compared mask l a e × Apart l r a e × ((b d : ℕ) → Compared mask l b d → Earlier b d a e → Agree l r b d)
+
+-- "equal" exactly where all compared elements agree, with the sum of the compared sizes; "differs" exactly at the first that does not
+pub record Told (mask : ℕ) (l r : Listed) (reply : Reply) : Type 1 where
+  pub same : (n : ℕ) → (reply ≡ equal n) ↔ ((n ≡ comparedSize mask 0 (l .tables .arrays)) × ((a e : ℕ) → Compared mask l a e → Agree l r a e))
+  pub other : (a e : ℕ) → (reply ≡ differs a e) ↔ FirstApart mask l r a e

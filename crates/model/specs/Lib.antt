@@ -1,0 +1,5 @@
+pub mod Test
+pub mod Tables
+pub mod Update
+pub mod Reply
+pub mod Memory

@@ -1,0 +1,1 @@
+// Reads a program file. Its definitions stand in specs/; no code yet.

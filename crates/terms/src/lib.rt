@@ -1,0 +1,1 @@
+// The store of terms. Its definitions stand in specs/; no code yet.

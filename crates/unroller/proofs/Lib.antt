@@ -1,0 +1,5 @@
+pub mod Parts
+pub mod Encode
+pub mod Inverse
+pub mod Laws
+pub mod Runs

@@ -1,0 +1,166 @@
+-- The run of a program (paper 01, "The run"): its updates in order, or the first of the questions 15 to 21 whose answer is no.
+use Prim.Native.Nat.{ℕ, zero, suc, _+_, _*_}
+use mathlib.Core.List.{List, [], _∷_, _++_}
+use mathlib.Core.Bool.{Bool, true, false, _&&_, _||_, not}
+use lib.ListN.{length}
+use lib.Dec.{ltb, leb}
+use lib.IntN.{ℤ, pos, negsuc, _+ℤ_, _*ℤ_}
+use lib.Signed.{leZ}
+use Rattle.model.specs.Tables.{Array, Tables, arrayAt, starts}
+use Rattle.model.specs.Update.{Tree, Trees, Update, written}
+use Rattle.model.specs.Update.Tree.{cell, number, constant, operator}
+use Rattle.model.specs.Update.Trees.{nil, cons}
+use Rattle.reader.specs.Syntax.{Form, Expr, Exprs, Item, Items, Program, count}
+use Rattle.reader.specs.Syntax.Expr.{read, apply, literal, named}
+use Rattle.reader.specs.Syntax.Exprs.{none, more}
+use Rattle.reader.specs.Syntax.Item.{statement, loop, guard}
+use Rattle.reader.specs.Syntax.Items.{end, item}
+
+pub data Ran (A : Type 0) : Type 0 where
+  ok : A → Ran A
+  stop : ℕ → ℕ → Ran A
+
+infixl 10 _>>=_
+-- what follows; a "no" ends the work
+abbrev pub _>>=_ : {A B : Type 0} → Ran A → (A → Ran B) → Ran B
+_>>=_ (ok a) f = f a
+_>>=_ (stop question place) f = stop question place
+
+abbrev pub ask : ℕ → ℕ → Bool → Ran ℕ
+ask question place true = ok 0
+ask question place false = stop question place
+
+-- the coefficients times the index values, outermost first
+abbrev pub products : List ℤ → List ℤ → ℤ
+products [] is = pos 0
+products (c ∷ cs) [] = pos 0
+products (c ∷ cs) (i ∷ is) = c *ℤ i +ℤ products cs is
+
+abbrev pub valueAt : Form → List ℤ → ℤ
+valueAt f is = f .constant +ℤ products (f .coefficients) is
+
+-- fits in 32 signed bits
+abbrev pub fits32 : ℤ → Bool
+fits32 z = leZ (negsuc 2147483647) z && leZ z (pos 2147483647)
+
+-- the value of a form, for the item whose code stands at p
+unfoldable pub worked : ℕ → List ℤ → Form → Ran ℤ
+worked p is f = do
+  _ ← ask 21 p (fits32 (valueAt f is))
+  ok (valueAt f is)
+
+unfoldable pub workedAll : ℕ → List ℤ → List Form → Ran (List ℤ)
+workedAll p is [] = ok []
+workedAll p is (f ∷ fs) = do
+  v ← worked p is f
+  vs ← workedAll p is fs
+  ok (v ∷ vs)
+
+-- the cell at these subscripts, last fastest; n is the number made of the subscripts before them
+unfoldable pub cellNumber : ℕ → ℕ → List ℕ → List ℤ → Ran ℕ
+cellNumber p n [] vs = ok n
+cellNumber p n (e ∷ es) [] = ok n
+cellNumber p n (e ∷ es) (pos v ∷ vs) = do
+  _ ← ask 16 p (ltb v e)
+  cellNumber p (n * e + v) es vs
+cellNumber p n (e ∷ es) (negsuc v ∷ vs) = stop 16 p
+
+unfoldable pub cellAt : Tables → ℕ → List ℤ → ℕ → List Form → Ran ℕ
+cellAt t p is a fs = do
+  vs ← workedAll p is fs
+  cellNumber p 0 (arrayAt (t .arrays) a .extents) vs
+
+unfoldable mutual
+  pub tree : Expr → Tables → ℕ → List ℤ → Ran Tree
+  tree (read a fs) t p is = do
+    c ← cellAt t p is a fs
+    ok (cell a c)
+  tree (apply o es) t p is = do
+    ts ← trees es t p is
+    ok (operator o ts)
+  tree (literal f) t p is = do
+    v ← worked p is f
+    ok (number v)
+  tree (named n) t p is = ok (constant n)
+
+  pub trees : Exprs → Tables → ℕ → List ℤ → Ran Trees
+  trees none t p is = ok nil
+  trees (more e es) t p is = do
+    x ← tree e t p is
+    xs ← trees es t p is
+    ok (cons x xs)
+
+-- each cell read from an out or local array is written by an earlier update
+unfoldable mutual
+  pub readable : Tree → List Array → List Update → Bool
+  readable (cell a c) xs us = starts (arrayAt xs a) || written us a c
+  readable (number z) xs us = true
+  readable (constant n) xs us = true
+  readable (operator o ts) xs us = readables ts xs us
+
+  pub readables : Trees → List Array → List Update → Bool
+  readables nil xs us = true
+  readables (cons t ts) xs us = readable t xs us && readables ts xs us
+
+-- what the run has done so far
+pub record Done : Type 0 where
+  pub rounds : ℕ
+  pub nodes : ℕ
+  pub updates : List Update
+
+-- an executed statement: 19, 20, 16 (with 21) of target and reads, 17
+unfoldable pub update : Tables → ℕ → List ℤ → ℕ → List Form → Expr → Done → Ran Done
+update t p is a fs e d = do
+  _ ← ask 19 p (leb (length (d .updates) + 1) 2048)
+  _ ← ask 20 p (leb (d .nodes + count e) 8192)
+  c ← cellAt t p is a fs
+  x ← tree e t p is
+  _ ← ask 17 p (readable x (t .arrays) (d .updates))
+  ok (record { rounds = d .rounds; nodes = d .nodes + count e; updates = d .updates ++ (record { array = a; target = c; source = x } ∷ []) })
+
+-- the index is not above the end, for a step above 0, or not below it
+abbrev pub goesOn : ℤ → ℤ → ℤ → Bool
+goesOn (pos n) last i = leZ i last
+goesOn (negsuc n) last i = leZ last i
+
+-- the index values of a loop: first, first + step, and so on. Both ends lie in 16 signed bits, so there are 65,536 at most.
+unfoldable pub indices : ℕ → ℤ → ℤ → ℤ → List ℤ
+indices zero step last i = []
+indices (suc most) step last i = elim (goesOn step last i) [ true ↦ i ∷ indices most step last (i +ℤ step) | false ↦ [] ]
+
+-- one round for each index value, of all loops together at most 65,536
+unfoldable pub rounds : List ℤ → ℕ → (ℤ → Done → Ran Done) → Done → Ran Done
+rounds [] p body d = ok d
+rounds (i ∷ is) p body d = do
+  _ ← ask 18 p (leb (d .rounds + 1) 65536)
+  d′ ← body i (record { rounds = d .rounds + 1; nodes = d .nodes; updates = d .updates })
+  rounds is p body d′
+
+-- lies in 16 signed bits
+abbrev pub fits16 : ℤ → Bool
+fits16 z = leZ (negsuc 32767) z && leZ z (pos 32767)
+
+unfoldable mutual
+  pub run : Item → Tables → List ℤ → Done → Ran Done
+  run (statement p a fs e) t is d = update t p is a fs e d
+  run (loop p s e step body) t is d = do
+    first ← worked p is s
+    last ← worked p is e
+    _ ← ask 15 p (fits16 first && fits16 last)
+    rounds (indices 65536 step last first) p (λ i d′. runs body t (is ++ (i ∷ [])) d′) d
+  run (guard p f body) t is d = do
+    v ← worked p is f
+    elim (leZ (pos 0) v) as (λ b. Ran Done) [ true ↦ runs body t is d | false ↦ ok d ]
+
+  pub runs : Items → Tables → List ℤ → Done → Ran Done
+  runs end t is d = ok d
+  runs (item i rest) t is d = do
+    d′ ← run i t is d
+    runs rest t is d′
+
+abbrev pub nothing : Done
+nothing = record { rounds = 0; nodes = 0; updates = [] }
+
+-- the whole program
+unfoldable pub runProgram : Program → Ran Done
+runProgram p = runs (p .items) (p .tables) [] nothing
