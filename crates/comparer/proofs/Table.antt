@@ -29,7 +29,7 @@ use Rattle.comparer.specs.Claims.{StarredRows}
 use Rattle.comparer.proofs.Input.{framed-programs}
 
 rows-programs : (any : List ℕ) → map (λ (x : Row). programsReply allBits (x .one) (x .other any)) starred ≡ map (λ (x : Row). x .reply) starred
-unfolding field byte u16 u32 i8 i16 times Grammar.head Grammar.arity Grammar.operators Grammar.extent Grammar.array Grammar.arrays Grammar.tables Grammar.form Grammar.subscripts Grammar.index Grammar.readOf Grammar.literalOf Grammar.constantOf Grammar.applyOf Grammar.node Grammar.applied Grammar.expression Grammar.statementOf Grammar.step Grammar.loopOf Grammar.guardOf Grammar.items Grammar.itemOf Grammar.nested Grammar.body Grammar.program Grammar.readProgram Run.worked Run.workedAll Run.cellNumber Run.cellAt Run.tree Run.trees count counts Run.readable Run.readables Run.update Run.indices Run.rounds Run.run Run.runs runProgram unrolled same sames parts partsOf termCount valueOf valuesOf listsReply programsReply
+unfolding field byte u16 u32 i8 i16 times Grammar.head Grammar.arity Grammar.operators Grammar.extent Grammar.array Grammar.arrays Grammar.tables Grammar.form Grammar.subscripts Grammar.index Grammar.readOf Grammar.literalOf Grammar.constantOf Grammar.applyOf Grammar.node Grammar.applied Grammar.expression Grammar.statementOf Grammar.step Grammar.loopOf Grammar.guardOf Grammar.items Grammar.itemOf Grammar.nested Grammar.body Grammar.program Grammar.readProgram Run.worked Run.cellFrom Run.cellAt Run.tree Run.trees count counts Run.readable Run.readables Run.update Run.indices Run.rounds Run.run Run.runs runProgram unrolled same sames parts partsOf termCount valueOf valuesOf listsReply programsReply
 rows-programs any = refl
 
 -- every left side is within its limit

@@ -49,26 +49,24 @@ worked p is f = do
   _ ← ask 21 p (fits32 (valueAt f is))
   ok (valueAt f is)
 
-unfoldable pub workedAll : ℕ → List ℤ → List Form → Ran (List ℤ)
-workedAll p is [] = ok []
-workedAll p is (f ∷ fs) = do
-  v ← worked p is f
-  vs ← workedAll p is fs
-  ok (v ∷ vs)
+-- is a subscript inside its extent? 16
+abbrev pub inExtent : ℕ → ℕ → ℤ → Ran ℕ
+inExtent p e (pos v) = do
+  _ ← ask 16 p (ltb v e)
+  ok v
+inExtent p e (negsuc v) = stop 16 p
 
 -- the cell at these subscripts, last fastest; n is the number made of the subscripts before them
-unfoldable pub cellNumber : ℕ → ℕ → List ℕ → List ℤ → Ran ℕ
-cellNumber p n [] vs = ok n
-cellNumber p n (e ∷ es) [] = ok n
-cellNumber p n (e ∷ es) (pos v ∷ vs) = do
-  _ ← ask 16 p (ltb v e)
-  cellNumber p (n * e + v) es vs
-cellNumber p n (e ∷ es) (negsuc v ∷ vs) = stop 16 p
+unfoldable pub cellFrom : ℕ → List ℤ → ℕ → List ℕ → List Form → Ran ℕ
+cellFrom p is n [] fs = ok n
+cellFrom p is n (e ∷ es) [] = ok n
+cellFrom p is n (e ∷ es) (f ∷ fs) = do
+  v ← worked p is f
+  k ← inExtent p e v
+  cellFrom p is (n * e + k) es fs
 
 unfoldable pub cellAt : Tables → ℕ → List ℤ → ℕ → List Form → Ran ℕ
-cellAt t p is a fs = do
-  vs ← workedAll p is fs
-  cellNumber p 0 (arrayAt (t .arrays) a .extents) vs
+cellAt t p is a fs = cellFrom p is 0 (arrayAt (t .arrays) a .extents) fs
 
 unfoldable mutual
   pub tree : Expr → Tables → ℕ → List ℤ → Ran Tree
