@@ -9,3 +9,4 @@ pub mod KeptLists
 pub mod Theorems
 pub mod Input
 pub mod Table
+pub mod Examples
