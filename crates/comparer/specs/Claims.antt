@@ -1,12 +1,12 @@
 -- Every promise of the product about its definitions, each as a named type. README.md says where each is proved.
 -- That each entry's code meets these definitions is its contract.
-use Prim.Native.Nat.{ℕ, _≤_}
+use Prim.Native.Nat.{ℕ, _≤_, _<_}
 use mathlib.Core.Path.{_≡_}
 use mathlib.Core.Logic.{_↔_}
 use mathlib.Core.List.{List, map}
 use mathlib.Core.Bool.{true, false, _||_, not}
 use mathlib.Core.Option.{Option, some}
-use lib.ListN.{length, take}
+use lib.ListN.{length, getD, take}
 use Rattle.model.specs.Tables.{arrayAt, local}
 use Rattle.model.specs.Update.{Tree, Listed, written}
 use Rattle.model.specs.Reply.{Reply, isRefused}
@@ -81,6 +81,10 @@ LayoutFits = (l : Listed) (n : ℕ) → allowed l ≡ true → 30818 ≤ n → l
 -- Question 26 as the paper asks it: yes for what the layout gives for some allowed list, and for nothing else.
 abbrev pub Question26 : Type 0
 Question26 = (w : List ℕ) → (accepted w ≡ true) ↔ ((l : Listed) × (allowed l ≡ true) × (w ≡ layout l (length w)))
+
+-- Every list that a program unrolls to is allowed, so its layout is accepted.
+abbrev pub UnrolledAllowed : Type 0
+UnrolledAllowed = (bytes : List ℕ) (l : Listed) → ((i : ℕ) → getD bytes i 0 < 256) → unrolled bytes ≡ ok l → allowed l ≡ true
 
 -- No input is answered otherwise for being cut behind byte 32,771, which is what the program reads.
 abbrev pub InputCut : Type 0

@@ -3,3 +3,4 @@ pub mod Encode
 pub mod Inverse
 pub mod Laws
 pub mod Runs
+pub mod Accepted

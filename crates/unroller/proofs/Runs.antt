@@ -31,7 +31,7 @@ pub ask-by : {B : Type 0} {P : Type 0} (question place : ℕ) (test : Bool) (f :
 ask-by question place true f e k = k refl e
 ask-by question place false f e k = absurd (let z : _≡_ {A = ℕ} 0 1 = cc in omega arith)
 
-ok-is : {A : Type 0} (P : A → Type 0) {a b : A} → _≡_ {A = Ran A} (ok a) (ok b) → P a → P b
+pub ok-is : {A : Type 0} (P : A → Type 0) {a b : A} → _≡_ {A = Ran A} (ok a) (ok b) → P a → P b
 ok-is P {a} {b} e p = let x : a ≡ b = cc in subst P x p
 
 readAll-snoc : (xs : List Array) (us done : List Update) (u : Update) → readAll xs done (us ++ (u ∷ [])) ≡ (readAll xs done us && readable (u .source) xs (done ++ us))
