@@ -4,3 +4,6 @@ pub mod Allowed
 pub mod Layout
 pub mod Decode
 pub mod Unroll
+pub mod State
+pub mod CheckAnswers
+pub mod Stands

@@ -1,1 +1,5 @@
-// Turns a program into its update list, and checks a list. Its definitions stand in specs/; no code yet.
+// Turns a program into its update list, and checks a list.
+mod lists;
+
+pub use lists::Checked;
+pub use lists::check_list;
