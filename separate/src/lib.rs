@@ -1,0 +1,28 @@
+//! Loop pair checker, written separately from the paper `01-scope.md`.
+//!
+//! Two encoded loop programs, or two update lists, go in; a reply comes out.
+
+pub mod compare;
+pub mod input;
+pub mod limits;
+pub mod line;
+pub mod list;
+pub mod notation;
+pub mod random;
+pub mod read;
+pub mod reply;
+pub mod run;
+pub mod stream;
+pub mod tables;
+pub mod terms;
+pub mod tree;
+pub mod work;
+
+pub use compare::{compare_lists, compare_programs, compare_programs_masked};
+pub use input::compare_input;
+pub use line::line_of;
+pub use list::check_list;
+pub use read::read_program;
+pub use reply::{Question, Refusal, Reply, Side};
+pub use run::unroll;
+pub use work::Work;

@@ -1,0 +1,153 @@
+//! The command line: see README.md.
+
+use std::collections::BTreeMap;
+use std::io::{self, BufWriter, Read, Write};
+use std::process::ExitCode;
+
+use separate::input::INPUT_BYTES;
+use separate::random::{ListPairs, Pairs};
+use separate::{line_of, notation, stream, Reply, Work};
+
+const USAGE: &str = "usage: separate pair | lines | histogram | list-lines | asm | dis
+       separate random COUNT SEED | random-lists COUNT SEED";
+
+/// What goes to standard error before the program ends with status 2.
+type Outcome = Result<(), String>;
+
+fn main() -> ExitCode {
+    let arguments: Vec<_> = std::env::args_os().skip(1).collect();
+    let words: Option<Vec<_>> = arguments.iter().map(|argument| argument.to_str()).collect();
+    let outcome = match words.as_deref() {
+        Some(["pair"]) => pair(),
+        Some(["lines"]) => lines(),
+        Some(["histogram"]) => histogram(),
+        Some(["list-lines"]) => list_lines(),
+        Some(["asm"]) => asm(),
+        Some(["dis"]) => dis(),
+        Some(["random", count, seed]) => random(count, seed),
+        Some(["random-lists", count, seed]) => random_lists(count, seed),
+        _ => Err(USAGE.to_string()),
+    };
+    match outcome {
+        Ok(()) => ExitCode::SUCCESS,
+        Err(message) => {
+            eprintln!("{message}");
+            ExitCode::from(2)
+        }
+    }
+}
+
+fn failed(error: io::Error) -> String {
+    error.to_string()
+}
+
+fn standard_input() -> Result<Vec<u8>, String> {
+    let mut bytes = Vec::new();
+    io::stdin().lock().read_to_end(&mut bytes).map_err(failed)?;
+    Ok(bytes)
+}
+
+/// Gives `write` a buffered standard output.
+fn output(write: impl FnOnce(&mut dyn Write) -> io::Result<()>) -> Outcome {
+    let mut out = BufWriter::new(io::stdout().lock());
+    write(&mut out).and_then(|()| out.flush()).map_err(failed)
+}
+
+fn pair() -> Outcome {
+    let mut input = Vec::new();
+    // What follows can change no reply, so it is not waited for.
+    let most = INPUT_BYTES as u64;
+    io::stdin().lock().take(most).read_to_end(&mut input).map_err(failed)?;
+    let line = line_of(Work::default().input(&input));
+    output(|out| writeln!(out, "{line}"))
+}
+
+/// Answers each pair of a stream.
+fn replies(stream: &[u8]) -> Result<Vec<Reply>, String> {
+    let mut work = Work::default();
+    let replies = stream::inputs(stream).map(|input| Ok(work.input(input?)));
+    replies.collect::<Result<_, stream::Cut>>().map_err(|_| "the stream is cut".to_string())
+}
+
+fn lines() -> Outcome {
+    let replies = replies(&standard_input()?)?;
+    output(|out| replies.iter().try_for_each(|&reply| writeln!(out, "{}", line_of(reply))))
+}
+
+fn histogram() -> Outcome {
+    let replies = replies(&standard_input()?)?;
+    let mut counts = BTreeMap::new();
+    for reply in &replies {
+        *counts.entry(kind(*reply)).or_insert(0usize) += 1;
+    }
+    output(|out| {
+        for ((_, kind), count) in counts {
+            let percent = 100.0 * count as f64 / replies.len() as f64;
+            writeln!(out, "{count:>8} {percent:>6.2}% {kind}")?;
+        }
+        writeln!(out, "{:>8} 100.00% pairs", replies.len())
+    })
+}
+
+/// A reply without its place, and a number to sort by.
+fn kind(reply: Reply) -> (u8, String) {
+    let line = line_of(reply).to_string();
+    let mut words = line.split(' ');
+    match reply {
+        Reply::Equal { .. } | Reply::Differs { .. } => (0, words.next().unwrap_or("").to_string()),
+        Reply::Refused { number, .. } => {
+            let side = words.nth(1).unwrap_or("");
+            (number, format!("refused {side} {number}"))
+        }
+    }
+}
+
+fn list_lines() -> Outcome {
+    let bytes = standard_input()?;
+    let mut work = Work::default();
+    output(|out| {
+        for pair in stream::lists(&bytes) {
+            let pair = pair.map_err(|_| io::Error::other("the stream is cut"))?;
+            let reply = work.lists(&pair.left.slice(), &pair.right.slice(), pair.mask);
+            writeln!(out, "{}", line_of(reply))?;
+        }
+        Ok(())
+    })
+}
+
+fn number(word: &str) -> Result<u64, String> {
+    word.parse().map_err(|_| format!("'{word}' is no number\n{USAGE}"))
+}
+
+fn random(count: &str, seed: &str) -> Outcome {
+    let (count, seed) = (number(count)?, number(seed)?);
+    output(|mut out| {
+        let mut pairs = Pairs::new(seed).take(count as usize);
+        pairs.try_for_each(|input| stream::write_input(&mut out, &input))
+    })
+}
+
+fn random_lists(count: &str, seed: &str) -> Outcome {
+    let (count, seed) = (number(count)?, number(seed)?);
+    output(|mut out| {
+        let mut pairs = ListPairs::new(seed).take(count as usize);
+        pairs.try_for_each(|pair| stream::write_lists(&mut out, &pair))
+    })
+}
+
+fn asm() -> Outcome {
+    let text = standard_input()?;
+    let text = std::str::from_utf8(&text).map_err(|error| {
+        let line = 1 + text[..error.valid_up_to()].iter().filter(|&&byte| byte == b'\n').count();
+        format!("line {line}: not UTF-8")
+    })?;
+    let bytes = notation::assemble(text).map_err(|error| error.to_string())?;
+    output(|out| out.write_all(&bytes))
+}
+
+fn dis() -> Outcome {
+    let bytes = standard_input()?;
+    let text = notation::disassemble(&bytes)
+        .map_err(|no| format!("refused {} {}", no.number, no.place))?;
+    output(|out| out.write_all(text.as_bytes()))
+}

@@ -1,0 +1,418 @@
+//! Random pairs of update lists.
+
+use super::programs::{program, tables};
+use super::{templates, Random};
+use crate::compare::ALL;
+use crate::limits::{CELLS, LIST_WORDS, NODES, OPERATOR_NESTING, UPDATES};
+use crate::list::{code, decode, write_header, List, Record, HEADER};
+use crate::reply::Reply;
+use crate::stream::{ListPair, Stored};
+use crate::tables::{Array, Role, Tables};
+use crate::tree::{encode, Declaration};
+use crate::work::Work;
+
+/// An endless stream of list pairs.
+pub struct ListPairs {
+    random: Random,
+    work: Work,
+}
+
+impl Iterator for ListPairs {
+    type Item = ListPair;
+
+    fn next(&mut self) -> Option<ListPair> {
+        let (left, right) = self.pair();
+        let mask = self.mask();
+        // The longer slices change nothing; both sides come in either order.
+        let (left, right) = (self.stored(left), self.stored(right));
+        let swapped = self.random.chance(50);
+        let (left, right) = if swapped { (right, left) } else { (left, right) };
+        let mut pair = ListPair { mask, left, right };
+        if self.random.chance(5) {
+            self.shorten(&mut pair);
+        }
+        Some(pair)
+    }
+}
+
+/// A list taken apart: each update is its own record and those of its
+/// expression.
+#[derive(Clone)]
+pub struct Parts {
+    pub tables: Tables,
+    pub updates: Vec<Vec<Record>>,
+}
+
+impl Parts {
+    pub fn of(list: &List) -> Parts {
+        let updates = list.updates().map(|(update, expression)| {
+            let mut records = vec![*update];
+            records.extend(expression);
+            records
+        });
+        Parts { tables: list.tables.clone(), updates: updates.collect() }
+    }
+
+    /// The words of the list without the zeros after it.
+    pub fn words(&self) -> Vec<u32> {
+        let mut header = [0; HEADER];
+        write_header(&self.tables, &mut header);
+        let mut words = header.to_vec();
+        words.extend(self.updates.iter().flatten().flatten());
+        words
+    }
+
+    /// A random order that keeps conflicting updates as they are.
+    pub fn reordered(&self, random: &mut Random) -> Parts {
+        let (mut waits, followers) = self.dependences();
+        let mut ready: Vec<_> = (0..waits.len()).filter(|&update| waits[update] == 0).collect();
+        let mut updates = Vec::new();
+        while !ready.is_empty() {
+            let update = ready.swap_remove(random.below(ready.len()));
+            updates.push(self.updates[update].clone());
+            for &follower in &followers[update] {
+                waits[follower] -= 1;
+                if waits[follower] == 0 {
+                    ready.push(follower);
+                }
+            }
+        }
+        Parts { tables: self.tables.clone(), updates }
+    }
+
+    /// How many updates each one has to wait for, and which wait for it. Going
+    /// by the last write of a cell and the reads since is enough: the rest of
+    /// the conflicts follow.
+    fn dependences(&self) -> (Vec<usize>, Vec<Vec<usize>>) {
+        let count = self.updates.len();
+        let mut waits = vec![0; count];
+        let mut followers = vec![Vec::new(); count];
+        let mut writer: Vec<Option<usize>> = vec![None; CELLS];
+        let mut readers: Vec<Vec<usize>> = vec![Vec::new(); CELLS];
+        for (update, records) in self.updates.iter().enumerate() {
+            let cell =
+                |record: &Record| self.tables.first_cell(record[1] as usize) + record[2] as usize;
+            let mut before = Vec::new();
+            let reads = records[1..].iter().filter(|record| record[0] == code::READ).map(cell);
+            for read in reads {
+                before.extend(writer[read]);
+                readers[read].push(update);
+            }
+            let target = cell(&records[0]);
+            before.extend(writer[target]);
+            before.append(&mut readers[target]);
+            writer[target] = Some(update);
+            before.retain(|&earlier| earlier != update);
+            for earlier in before {
+                waits[update] += 1;
+                followers[earlier].push(update);
+            }
+        }
+        (waits, followers)
+    }
+}
+
+impl ListPairs {
+    pub fn new(seed: u64) -> ListPairs {
+        ListPairs { random: Random::new(seed), work: Work::default() }
+    }
+
+    fn pair(&mut self) -> (Vec<u32>, Vec<u32>) {
+        let base = self.list();
+        let words = base.words();
+        match self.random.below(100) {
+            0..5 => (words.clone(), words),
+            5..35 => (base.reordered(&mut self.random).words(), words),
+            35..65 => {
+                let changed = self.changed(&base, &words);
+                (words, changed.words())
+            }
+            65..85 => {
+                let mut other = base.reordered(&mut self.random).words();
+                self.damage(&mut other);
+                (words, other)
+            }
+            85..88 => (words, self.at_limit(&base).words()),
+            88..90 => (words, self.list().words()),
+            90..92 => self.many_terms(),
+            92..98 => {
+                let mut other = words.clone();
+                self.change_table(&mut other);
+                (words, other)
+            }
+            _ => {
+                let mut other = words.clone();
+                self.damage_behind(&mut other);
+                (words, other)
+            }
+        }
+    }
+
+    fn mask(&mut self) -> u16 {
+        match self.random.below(8) {
+            0..4 => u16::MAX,
+            4 => 1 << self.random.below(6),
+            5 => *self.random.pick(&[0, 0x8000, 0x7FFF, 1]),
+            _ => self.random.draw() as u16,
+        }
+    }
+
+    /// Mostly the shortest slice that is long enough.
+    fn stored(&mut self, words: Vec<u32>) -> Stored {
+        let more = if self.random.chance(10) { self.random.below(2_000) } else { 0 };
+        Stored { length: (LIST_WORDS + more).max(words.len()), words }
+    }
+
+    fn shorten(&mut self, pair: &mut ListPair) {
+        let side = if self.random.chance(50) { &mut pair.left } else { &mut pair.right };
+        let below = self.random.below(LIST_WORDS);
+        side.length = *self.random.pick(&[0, 1, 97, 98, below, LIST_WORDS - 1, LIST_WORDS - 1]);
+        side.words.truncate(side.length);
+    }
+
+    /// An accepted list, from a program or made up.
+    fn list(&mut self) -> Parts {
+        if self.random.chance(40) {
+            return self.made_up();
+        }
+        let source = match self.random.below(100) {
+            0..3 => templates::large(&mut self.random),
+            3..15 => templates::nest(&mut self.random),
+            _ => program(&mut self.random, &mut self.work),
+        };
+        match self.work.unroll(&encode(&source).bytes) {
+            Ok(words) => Parts::of(&decode(words).expect("an unrolled list is accepted")),
+            Err(_) => self.made_up(),
+        }
+    }
+
+    fn made_up(&mut self) -> Parts {
+        let (arities, arrays) = tables(&mut self.random);
+        let mut maker = ListMaker::new(&mut self.random, &arities, &arrays);
+        let many = if maker.random.chance(2) { UPDATES } else { 16 };
+        for _ in 0..maker.random.below(many) {
+            maker.update();
+        }
+        Parts { tables: maker.tables, updates: maker.updates }
+    }
+
+    /// A new order with one change, if possible one that makes a difference.
+    fn changed(&mut self, base: &Parts, words: &[u32]) -> Parts {
+        let base_slice = Stored { length: LIST_WORDS, words: words.to_vec() }.slice();
+        let mut other = base.clone();
+        for _ in 0..8 {
+            other = base.reordered(&mut self.random);
+            self.change(&mut other);
+            let slice = Stored { length: LIST_WORDS, words: other.words() }.slice();
+            if matches!(self.work.lists(&base_slice, &slice, ALL), Reply::Differs { .. }) {
+                break;
+            }
+        }
+        other
+    }
+
+    /// One record becomes another; the list may or may not stay accepted.
+    fn change(&mut self, parts: &mut Parts) {
+        if parts.updates.is_empty() {
+            return;
+        }
+        let random = &mut self.random;
+        let update = random.below(parts.updates.len());
+        let records = &mut parts.updates[update];
+        let at = random.below(records.len());
+        let by = *random.pick(&[1, u32::MAX, 2]);
+        match records[at] {
+            [code::UPDATE | code::READ, _, ref mut cell] => *cell = cell.wrapping_add(by),
+            [_, ref mut value, _] => *value = value.wrapping_add(by),
+        }
+        if random.chance(15) {
+            let other = random.below(parts.updates.len());
+            parts.updates.swap(update, other);
+        }
+    }
+
+    fn damage(&mut self, words: &mut Vec<u32>) {
+        for _ in 0..1 + self.random.below(4) {
+            // Header words decide much and are few, so they get their share.
+            let most = if self.random.chance(40) { HEADER } else { words.len() + 6 };
+            let at = self.random.below(most);
+            words.resize(words.len().max(at + 1), 0);
+            words[at] = self.other_word(words[at]);
+        }
+    }
+
+    fn other_word(&mut self, word: u32) -> u32 {
+        match self.random.below(8) {
+            0 => 0,
+            1 => word.wrapping_add(1),
+            2 => word.wrapping_sub(1),
+            3 => *self.random.pick(&[1, 16, 17, 18, 19]),
+            4 => self.random.below(20) as u32,
+            5 => word ^ 1 << self.random.below(32),
+            6 => *self.random.pick(&[3, 4, 5, 1_024, 1_025, 2_048, u32::MAX]),
+            _ => self.random.draw() as u32,
+        }
+    }
+
+    /// Another role, extent or arity, or an operator more: 22 or 23 if the
+    /// list stays accepted.
+    fn change_table(&mut self, words: &mut [u32]) {
+        let operators = words[0] as usize;
+        match self.random.below(4) {
+            0 if operators < 16 => {
+                words[0] += 1;
+                words[1 + operators] = 1 + self.random.below(4) as u32;
+            }
+            1 if operators > 0 => words[operators] = 1 + self.random.below(4) as u32,
+            2 => words[18 + 5 * self.random.below(4)] = self.random.below(4) as u32,
+            _ => {
+                let extent = &mut words[20 + 5 * self.random.below(4) + self.random.below(3)];
+                *extent = extent.wrapping_add(*self.random.pick(&[1, 1, 2, u32::MAX]));
+            }
+        }
+    }
+
+    /// A word that should be zero, near the list's end or at the very last.
+    fn damage_behind(&mut self, words: &mut Vec<u32>) {
+        let near = words.len() + self.random.below(9);
+        let at = *self.random.pick(&[near, near, near, 30_817, 30_818, LIST_WORDS - 1, 33_000]);
+        words.resize(words.len().max(at + 1), 0);
+        words[at] = 1 + self.random.below(20) as u32;
+    }
+
+    /// A list at a limit, or one beyond it.
+    fn at_limit(&mut self, base: &Parts) -> Parts {
+        let mut parts = base.clone();
+        let over = self.random.below(2);
+        let writable = |&array: &usize| parts.tables.arrays()[array].role != Role::In;
+        let target = (0..parts.tables.arrays().len()).find(writable).expect("always one") as u32;
+        let update = vec![[code::UPDATE, target, 0], [code::LITERAL, 7, 0]];
+        let Some(&arity) = parts.tables.operators().first() else {
+            parts.updates.resize(UPDATES + over, update);
+            return parts;
+        };
+        match self.random.below(3) {
+            0 => parts.updates.resize(UPDATES + over, update),
+            1 => {
+                let mut records = vec![update[0]];
+                deep(arity, OPERATOR_NESTING + over, &mut records);
+                parts.updates.push(records);
+            }
+            _ => {
+                // As many nodes as are missing: operators over literals, and
+                // single literals for what they leave.
+                let mut whole = vec![update[0], [code::OPERATOR, 0, 0]];
+                whole.extend(vec![update[1]; usize::from(arity)]);
+                let held: usize = parts.updates.iter().map(|records| records.len() - 1).sum();
+                let mut missing = NODES + over - held;
+                while missing >= whole.len() - 1 && parts.updates.len() < UPDATES {
+                    missing -= whole.len() - 1;
+                    parts.updates.push(whole.clone());
+                }
+                parts.updates.extend(vec![update; missing.min(UPDATES)]);
+            }
+        }
+        parts
+    }
+
+    /// 4,096 terms, a few more or a few less, about half of them on each side.
+    fn many_terms(&mut self) -> (Vec<u32>, Vec<u32>) {
+        let array = Declaration { role: Role::Out, extents: vec![1_024, 2] };
+        let tables = tables_of(&[1], &[array]);
+        let side = |first: usize, names: std::ops::Range<usize>| {
+            let literals = (first..first + 1_024)
+                .map(|value| vec![[code::OPERATOR, 0, 0], [code::LITERAL, value as u32, 0]]);
+            let constants = names.map(|name| vec![[code::CONSTANT, name as u32, 0]]);
+            let update = |(cell, mut expression): (usize, Vec<Record>)| {
+                expression.insert(0, [code::UPDATE, 0, cell as u32]);
+                expression
+            };
+            let updates = literals.chain(constants).enumerate().map(update).collect();
+            Parts { tables: tables.clone(), updates }.words()
+        };
+        let overlap = self.random.below(3);
+        let (left, right) = (self.random.below(4), self.random.below(4));
+        (side(0, 0..left), side(1_024 - overlap, 10..10 + right))
+    }
+}
+
+/// Operators `levels` deep, first argument first.
+fn deep(arity: u8, levels: usize, records: &mut Vec<Record>) {
+    records.extend(vec![[code::OPERATOR, 0, 0]; levels]);
+    let leaves = 1 + levels * (usize::from(arity) - 1);
+    records.extend(vec![[code::CONSTANT, 3, 0]; leaves]);
+}
+
+fn tables_of(arities: &[u8], arrays: &[Declaration]) -> Tables {
+    let mut tables = Tables::default();
+    for &arity in arities {
+        tables.add_operator(arity);
+    }
+    for array in arrays {
+        let mut extents = [0; 3];
+        extents[..array.extents.len()].copy_from_slice(&array.extents);
+        tables.add_array(Array { role: array.role, dimensions: array.extents.len(), extents });
+    }
+    tables
+}
+
+/// Makes accepted lists that no loop program need have.
+struct ListMaker<'a> {
+    random: &'a mut Random,
+    tables: Tables,
+    updates: Vec<Vec<Record>>,
+    nodes: usize,
+    written: Vec<bool>,
+}
+
+impl<'a> ListMaker<'a> {
+    fn new(random: &'a mut Random, arities: &[u8], arrays: &[Declaration]) -> ListMaker<'a> {
+        let tables = tables_of(arities, arrays);
+        let written = vec![false; CELLS];
+        ListMaker { random, tables, updates: Vec::new(), nodes: 0, written }
+    }
+
+    /// Adds one update if its nodes are not too many.
+    fn update(&mut self) {
+        let arrays = self.tables.arrays();
+        let targets: Vec<_> = (0..arrays.len()).filter(|&a| arrays[a].role != Role::In).collect();
+        let target = *self.random.pick(&targets);
+        let cell = self.random.below(arrays[target].cells());
+        let mut records = vec![[code::UPDATE, target as u32, cell as u32]];
+        let levels = *self.random.pick(&[0, 0, 1, 1, 2]);
+        self.expression(levels, &mut records);
+        let nodes = records.len() - 1;
+        if self.nodes + nodes <= NODES {
+            self.nodes += nodes;
+            self.updates.push(records);
+            self.written[self.tables.first_cell(target) + cell] = true;
+        }
+    }
+
+    fn expression(&mut self, levels: usize, records: &mut Vec<Record>) {
+        let operators = self.tables.operators().len();
+        if levels == 0 || operators == 0 {
+            records.push(self.leaf());
+            return;
+        }
+        let number = self.random.below(operators);
+        records.push([code::OPERATOR, number as u32, 0]);
+        for _ in 0..self.tables.operators()[number] {
+            let below = self.random.below(levels);
+            self.expression(below, records);
+        }
+    }
+
+    fn leaf(&mut self) -> Record {
+        let array = self.random.below(self.tables.arrays().len());
+        let declared = self.tables.arrays()[array];
+        let cell = self.random.below(declared.cells());
+        let written = self.written[self.tables.first_cell(array) + cell];
+        if self.random.chance(70) && (declared.role.readable_at_start() || written) {
+            return [code::READ, array as u32, cell as u32];
+        }
+        let wide = if self.random.chance(20) { usize::MAX } else { 6 };
+        let value = self.random.below(wide) as u32;
+        [*self.random.pick(&[code::LITERAL, code::CONSTANT]), value, 0]
+    }
+}

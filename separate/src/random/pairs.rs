@@ -1,0 +1,365 @@
+//! Random pairs of programs, framed as standard input holds them.
+
+use super::changes::change;
+use super::programs::program;
+use super::refusals::refused;
+use super::rewrites::{renumber_arrays, IF_INDEPENDENT, SAFE};
+use super::{templates, Random, ATTEMPTS};
+use crate::limits::PROGRAM_BYTES;
+use crate::reply::Reply;
+use crate::tables::Role;
+use crate::tree::{each_node, encode, Declaration, Expression, Form, Source};
+use crate::work::Work;
+
+/// What a pair is made to be, with how many of a thousand.
+const KINDS: [(Kind, usize); 7] = [
+    (Kind::Equal, 290),
+    (Kind::Differs, 290),
+    (Kind::Damaged, 90),
+    (Kind::BadFrame, 14),
+    // Each of the nineteen numbers as often as a pair that does not fit.
+    (Kind::Refused, 19 * 14),
+    (Kind::Unlike, 2 * 16),
+    (Kind::TooManyTerms, 14),
+];
+
+#[derive(Clone, Copy)]
+enum Kind {
+    Equal,
+    Differs,
+    /// One to four bytes changed: anything may come of it.
+    Damaged,
+    /// Refused with 1.
+    BadFrame,
+    /// One program refused with 2 to 20.
+    Refused,
+    /// Refused with 22 or 23.
+    Unlike,
+    /// Refused with 24.
+    TooManyTerms,
+}
+
+/// An endless stream of framed pairs.
+pub struct Pairs {
+    random: Random,
+    work: Work,
+}
+
+impl Iterator for Pairs {
+    type Item = Vec<u8>;
+
+    fn next(&mut self) -> Option<Vec<u8>> {
+        let weights = KINDS.map(|(_, weight)| weight);
+        let (kind, _) = KINDS[self.random.weighted(&weights)];
+        Some(self.pair(kind))
+    }
+}
+
+pub fn frame(left: &[u8], right: &[u8]) -> Vec<u8> {
+    let length = u16::try_from(left.len()).expect("a program is shorter than 64 KiB");
+    [&length.to_le_bytes(), left, right].concat()
+}
+
+fn bytes_of(source: &Source) -> Vec<u8> {
+    encode(source).bytes
+}
+
+impl Pairs {
+    pub fn new(seed: u64) -> Pairs {
+        Pairs { random: Random::new(seed), work: Work::default() }
+    }
+
+    fn pair(&mut self, kind: Kind) -> Vec<u8> {
+        match kind {
+            Kind::Equal => self.equal(),
+            Kind::Differs => self.differs(),
+            Kind::Damaged => self.damaged(),
+            Kind::BadFrame => self.bad_frame(),
+            Kind::Refused => {
+                let number = 2 + self.random.below(19) as u8;
+                self.refused(number)
+            }
+            Kind::Unlike => {
+                let number = 22 + self.random.below(2) as u8;
+                self.unlike(number)
+            }
+            Kind::TooManyTerms => self.too_many_terms(),
+        }
+    }
+
+    /// Mostly small programs, so that thousands run in a second.
+    fn base(&mut self) -> Source {
+        match self.random.below(1_000) {
+            0..12 => templates::large(&mut self.random),
+            12..120 => templates::nest(&mut self.random),
+            120..126 => {
+                let tables = program(&mut self.random, &mut self.work);
+                Source { items: Vec::new(), ..tables }
+            }
+            _ => program(&mut self.random, &mut self.work),
+        }
+    }
+
+    fn reply(&mut self, left: &Source, right: &Source) -> Reply {
+        self.work.programs(&bytes_of(left), &bytes_of(right))
+    }
+
+    fn are_equal(&mut self, left: &Source, right: &Source) -> bool {
+        matches!(self.reply(left, right), Reply::Equal { .. })
+    }
+
+    /// One to four rewrites that together change nothing.
+    fn rewritten(&mut self, base: &Source) -> Source {
+        let mut source = base.clone();
+        for _ in 0..1 + self.random.below(4) {
+            let safe = self.random.chance(65);
+            let rewrites = if safe { &SAFE[..] } else { &IF_INDEPENDENT[..] };
+            let Some(next) = self.random.pick(rewrites)(&source, &mut self.random) else {
+                continue;
+            };
+            // Also where it is safe: rounds or updates may be too many now.
+            if self.are_equal(base, &next) {
+                source = next;
+            }
+        }
+        source
+    }
+
+    fn equal(&mut self) -> Vec<u8> {
+        let mut input = Vec::new();
+        for _ in 0..ATTEMPTS {
+            let base = self.base();
+            let left = if self.random.chance(50) { self.rewritten(&base) } else { base.clone() };
+            let right = self.rewritten(&base);
+            input = frame(&bytes_of(&left), &bytes_of(&right));
+            if self.are_equal(&left, &right) {
+                break;
+            }
+        }
+        input
+    }
+
+    fn differs(&mut self) -> Vec<u8> {
+        let mut input = Vec::new();
+        for _ in 0..ATTEMPTS {
+            let base = self.base();
+            let left = if self.random.chance(40) { self.rewritten(&base) } else { base.clone() };
+            let changed = self.changed(&base, &left);
+            let right = changed.as_ref().unwrap_or(&base);
+            input = frame(&bytes_of(&left), &bytes_of(right));
+            if changed.is_some() {
+                break;
+            }
+        }
+        input
+    }
+
+    /// One change, or a rewrite that breaks a dependence, that makes a
+    /// difference to the left; perhaps hidden among rewrites that make none.
+    fn changed(&mut self, base: &Source, left: &Source) -> Option<Source> {
+        for _ in 0..10 {
+            let changed = if self.random.chance(15) {
+                self.random.pick(&IF_INDEPENDENT)(base, &mut self.random)
+            } else {
+                change(base, &mut self.random)
+            };
+            let Some(right) = changed else { continue };
+            if matches!(self.reply(left, &right), Reply::Differs { .. }) {
+                let hidden = self.random.chance(30);
+                return Some(if hidden { self.rewritten(&right) } else { right });
+            }
+        }
+        None
+    }
+
+    fn damaged(&mut self) -> Vec<u8> {
+        let mut input = if self.random.chance(60) { self.equal() } else { self.differs() };
+        let places: Vec<_> =
+            (0..1 + self.random.below(4)).map(|_| self.random.below(input.len())).collect();
+        for place in places {
+            self.damage(&mut input, place);
+        }
+        input
+    }
+
+    fn damage(&mut self, input: &mut Vec<u8>, place: usize) {
+        let place = place.min(input.len() - 1);
+        match self.random.below(10) {
+            0 => input.insert(place, self.random.byte()),
+            1 if input.len() > 1 => drop(input.remove(place)),
+            2..=4 => input[place] ^= 1 << self.random.below(8),
+            5 | 6 => input[place] = self.random.below(4) as u8,
+            7 => input[place] = input[place].wrapping_add(1),
+            8 => input[place] = input[place].wrapping_sub(1),
+            _ => input[place] = self.random.byte(),
+        }
+    }
+
+    /// The length is missing, or says more than there is.
+    fn bad_frame(&mut self) -> Vec<u8> {
+        let mut input = self.equal();
+        let left = usize::from(u16::from_le_bytes([input[0], input[1]]));
+        match self.random.below(4) {
+            0 => input.truncate(self.random.below(2)),
+            1 => input.truncate(1 + left),
+            2 => input.truncate(2 + self.random.below(left)),
+            _ => {
+                let held = (input.len() - 2).min(PROGRAM_BYTES - 1);
+                let more = 1 + self.random.below((PROGRAM_BYTES - held).min(300));
+                let stated = if self.random.chance(20) { PROGRAM_BYTES } else { held + more };
+                input[..2].copy_from_slice(&(stated as u16).to_le_bytes());
+                // A long right side may still be enough for what is stated.
+                input.truncate(2 + held);
+            }
+        }
+        input
+    }
+
+    fn refused(&mut self, number: u8) -> Vec<u8> {
+        if self.random.chance(50) {
+            let base = self.base();
+            let left = bytes_of(&self.rewritten(&base));
+            let right = refused(number, &mut self.random, &mut self.work);
+            return frame(&left, &right);
+        }
+        let right = self.companion();
+        if number == 2 && self.random.chance(80) {
+            // As stated is enough, so the stated bytes need not follow.
+            let most = usize::from(u16::MAX) - PROGRAM_BYTES;
+            let some = 1 + self.random.below(most);
+            let above = *self.random.pick(&[1, some, most]);
+            let stated = (PROGRAM_BYTES + above) as u16;
+            return [&stated.to_le_bytes(), right.as_slice()].concat();
+        }
+        let left = refused(number, &mut self.random, &mut self.work);
+        frame(&left, &right)
+    }
+
+    /// Any right side, for a left one that is refused before it matters.
+    fn companion(&mut self) -> Vec<u8> {
+        match self.random.below(10) {
+            0..5 => {
+                let base = self.base();
+                bytes_of(&base)
+            }
+            5..8 => {
+                let number = 3 + self.random.below(18) as u8;
+                refused(number, &mut self.random, &mut self.work)
+            }
+            8 => Vec::new(),
+            _ => {
+                let count = self.random.below(40);
+                self.random.bytes(count)
+            }
+        }
+    }
+
+    /// Tables that differ in shared arrays (22) or in operators (23).
+    fn unlike(&mut self, number: u8) -> Vec<u8> {
+        let mut input = Vec::new();
+        for _ in 0..ATTEMPTS {
+            let base = self.base();
+            let mut other = self.rewritten(&base);
+            if number == 22 {
+                unlike_arrays(&mut other, &mut self.random);
+            } else {
+                unlike_operators(&mut other, &mut self.random);
+            }
+            let swapped = self.random.chance(50);
+            let (left, right) = if swapped { (&other, &base) } else { (&base, &other) };
+            input = frame(&bytes_of(left), &bytes_of(right));
+            if is_refused_with(self.reply(left, right), number) {
+                break;
+            }
+        }
+        input
+    }
+
+    fn too_many_terms(&mut self) -> Vec<u8> {
+        let mut input = Vec::new();
+        for _ in 0..ATTEMPTS {
+            let (left, right) = templates::too_many_terms(&mut self.random);
+            input = frame(&bytes_of(&left), &bytes_of(&right));
+            if is_refused_with(self.reply(&left, &right), 24) {
+                break;
+            }
+        }
+        input
+    }
+}
+
+fn is_refused_with(reply: Reply, wanted: u8) -> bool {
+    matches!(reply, Reply::Refused { number, .. } if number == wanted)
+}
+
+fn unlike_arrays(source: &mut Source, random: &mut Random) {
+    let shared = source.arrays.iter().filter(|array| array.role != Role::Local).count();
+    let number = random.below(shared.max(1));
+    match random.below(4) {
+        0 => {
+            let dimension = random.below(source.arrays[number].extents.len());
+            source.arrays[number].extents[dimension] += 1;
+        }
+        1 => {
+            let roles = [Role::In, Role::Out, Role::Inout];
+            source.arrays[number].role = *random.pick(&roles);
+        }
+        2 => {
+            // One shared array more, in front of the locals.
+            let role = *random.pick(&[Role::In, Role::Out, Role::Inout]);
+            source.arrays.insert(shared, Declaration { role, extents: vec![1] });
+            renumber_arrays(source, &|array| array + usize::from(array >= shared));
+        }
+        _ => one_dimension_more(source, number),
+    }
+}
+
+/// A last extent of 1, and a last subscript of 0.
+fn one_dimension_more(source: &mut Source, array: usize) {
+    source.arrays[array].extents.push(1);
+    let more = |subscripts: &mut Vec<Form>| {
+        let loops = subscripts[0].coefficients.len();
+        subscripts.push(Form::number(0, loops));
+    };
+    crate::tree::each_statement(&mut source.items, &mut |statement| {
+        if statement.target == array {
+            more(&mut statement.subscripts);
+        }
+    });
+    each_node(&mut source.items, &mut |node| match node {
+        Expression::Read { array: read, subscripts } if *read == array => more(subscripts),
+        _ => {}
+    });
+}
+
+fn unlike_operators(source: &mut Source, random: &mut Random) {
+    let count = source.arities.len();
+    match random.below(3) {
+        0 => source.arities.push(1 + random.below(4) as u8),
+        1 => {
+            // One operator more, before some others.
+            let at = random.below(count + 1);
+            source.arities.insert(at, 1 + random.below(4) as u8);
+            renumber_operators(source, &|number| number + usize::from(number >= at));
+        }
+        _ => {
+            if count > 0 {
+                let (one, other) = (random.below(count), random.below(count));
+                source.arities.swap(one, other);
+                renumber_operators(source, &|number| match number {
+                    number if number == one => other,
+                    number if number == other => one,
+                    number => number,
+                });
+            }
+        }
+    }
+}
+
+fn renumber_operators(source: &mut Source, renumbered: &dyn Fn(usize) -> usize) {
+    each_node(&mut source.items, &mut |node| {
+        if let Expression::Operator { number, .. } = node {
+            *number = renumbered(*number);
+        }
+    });
+}

@@ -1,0 +1,124 @@
+//! The command line, run as a program.
+
+mod common;
+use common::{frame, l_with, L};
+use std::io::Write;
+use std::process::{Command, Output, Stdio};
+
+fn separate(arguments: &[&str], input: &[u8]) -> Output {
+    let mut child = Command::new(env!("CARGO_BIN_EXE_separate"))
+        .args(arguments)
+        .stdin(Stdio::piped())
+        .stdout(Stdio::piped())
+        .stderr(Stdio::piped())
+        .spawn()
+        .unwrap();
+    // A program that does not read all of its input closes the pipe.
+    let _ = child.stdin.take().unwrap().write_all(input);
+    child.wait_with_output().unwrap()
+}
+
+fn text(bytes: &[u8]) -> &str {
+    std::str::from_utf8(bytes).unwrap()
+}
+
+#[test]
+fn pair_prints_one_line() {
+    for (input, line) in [
+        (frame(&L, &L), "equal 2\n"),
+        (frame(&L, &l_with(&[(18, 0)])), "differs 1 1\n"),
+        (frame(&L, &L[..33]), "refused right 3 33\n"),
+        (Vec::new(), "refused input 1 0\n"),
+        (frame(&L, &[0; 100_000]), "refused right 2 0\n"),
+    ] {
+        let output = separate(&["pair"], &input);
+        assert_eq!(text(&output.stdout), line);
+        assert!(output.stderr.is_empty());
+        assert_eq!(output.status.code(), Some(0));
+    }
+}
+
+#[test]
+fn wrong_usage() {
+    let wrong: [&[&str]; 10] = [
+        &[],
+        &["pears"],
+        &["pair", "x"],
+        &["random"],
+        &["random", "3"],
+        &["random", "3", "4", "5"],
+        &["random", "three", "4"],
+        &["random", "3", "-4"],
+        &["random-lists", "", "4"],
+        &["lines", "x"],
+    ];
+    for arguments in wrong {
+        let output = separate(arguments, b"");
+        assert_eq!(output.status.code(), Some(2), "{arguments:?}");
+        assert!(output.stdout.is_empty());
+        assert!(text(&output.stderr).contains("usage"), "{arguments:?}");
+    }
+}
+
+#[test]
+fn random_then_lines_then_pair() {
+    let stream = separate(&["random", "120", "5"], b"").stdout;
+    assert_eq!(stream, separate(&["random", "120", "5"], b"").stdout);
+    let output = separate(&["lines"], &stream);
+    let lines: Vec<_> = text(&output.stdout).lines().collect();
+    assert_eq!(lines.len(), 120);
+    for (input, line) in separate::stream::inputs(&stream).zip(&lines).take(30) {
+        let one = separate(&["pair"], input.unwrap());
+        assert_eq!(text(&one.stdout).trim_end(), *line);
+    }
+}
+
+#[test]
+fn histogram_counts_every_pair() {
+    let stream = separate(&["random", "150", "6"], b"").stdout;
+    let output = separate(&["histogram"], &stream);
+    let lines: Vec<_> = text(&output.stdout).lines().collect();
+    let counts =
+        lines.iter().map(|line| line.split_whitespace().next().unwrap().parse::<usize>().unwrap());
+    let counts: Vec<_> = counts.collect();
+    let (last, others) = counts.split_last().unwrap();
+    assert_eq!((*last, others.iter().sum::<usize>()), (150, 150));
+    assert!(lines.iter().any(|line| line.ends_with(" equal")));
+    assert!(lines.iter().any(|line| line.ends_with(" differs")));
+}
+
+#[test]
+fn list_pairs() {
+    let stream = separate(&["random-lists", "60", "5"], b"").stdout;
+    assert_eq!(stream, separate(&["random-lists", "60", "5"], b"").stdout);
+    let output = separate(&["list-lines"], &stream);
+    assert_eq!(text(&output.stdout).lines().count(), 60);
+    assert_eq!(output.status.code(), Some(0));
+}
+
+#[test]
+fn cut_streams() {
+    for command in ["lines", "histogram", "list-lines"] {
+        let output = separate(&[command], &[9, 0, 0, 0, 1]);
+        assert_eq!(output.status.code(), Some(2), "{command}");
+        assert!(text(&output.stderr).contains("cut"));
+        assert_eq!(separate(&[command], b"").status.code(), Some(0), "{command}");
+    }
+}
+
+#[test]
+fn asm_and_dis() {
+    let dis = separate(&["dis"], &L);
+    assert!(text(&dis.stdout).starts_with("array A in [2]\n"));
+    assert_eq!(separate(&["asm"], &dis.stdout).stdout, L);
+    let wrong = separate(&["asm"], b"array A in [1]\n\nA[0] = x\n");
+    assert_eq!(wrong.status.code(), Some(2));
+    assert!(text(&wrong.stderr).starts_with("line 3: "), "{}", text(&wrong.stderr));
+    assert!(wrong.stdout.is_empty());
+    let wrong = separate(&["asm"], b"array A in [1]\n# \xFF\n");
+    assert_eq!(wrong.status.code(), Some(2));
+    assert!(text(&wrong.stderr).starts_with("line 2: "));
+    let wrong = separate(&["dis"], &L[..33]);
+    assert_eq!(wrong.status.code(), Some(2));
+    assert_eq!(text(&wrong.stderr), "refused 3 33\n");
+}

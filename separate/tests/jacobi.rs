@@ -1,0 +1,105 @@
+//! Source document 003: one-dimensional Jacobi, 16 points, two time steps.
+
+mod common;
+use common::{asm, line_of_texts};
+use separate::limits::LIST_WORDS;
+use separate::list::{decode, Record};
+use separate::read::read_program;
+use separate::run::{run, Counts};
+
+/// Figure 1. The sum of three is two binary sums, and the factor a constant:
+/// seven nodes for each B, one for each A.
+const ORIGINAL: &str = "
+op add/2
+op mul/2
+array A inout [16]
+array B out [16]
+for t = 0 to 1 {
+  for i = 1 to 14 {
+    B[i] = mul(const 33333, add(add(A[i - 1], A[i]), A[i + 1]))
+  }
+  for j = 1 to 14 {
+    A[j] = B[j]
+  }
+}
+";
+
+/// Figure 2, tile_8.1.1. A test of parity is a loop over the odd numbers that
+/// come into question; the limits of c2, which the figure works out with
+/// divisions, are two guards.
+const TILED: &str = "
+op add/2
+op mul/2
+array A inout [16]
+array B out [16]
+for c0 = 1 to 17 {
+  for odd = 15 to 17 step 2 {
+    if c0 - odd >= 0 { if odd - c0 >= 0 {
+      A[14] = B[14]
+    } }
+  }
+  for c2 = 0 to 1 {
+    if 2*c2 - c0 + 14 >= 0 { if c0 - 2*c2 - 2 >= 0 {
+      B[c0 - 2*c2] =
+        mul(const 33333, add(add(A[c0 - 2*c2 - 1], A[c0 - 2*c2]), A[c0 - 2*c2 + 1]))
+      A[c0 - 2*c2 - 1] = B[c0 - 2*c2 - 1]
+    } }
+  }
+  for odd = 1 to 3 step 2 {
+    if c0 - odd >= 0 { if odd - c0 >= 0 {
+      B[1] = mul(const 33333, add(add(A[0], A[1]), A[2]))
+    } }
+  }
+}
+";
+
+fn unrolled(text: &str) -> (Counts, Vec<Record>) {
+    let program = read_program(&asm(text)).expect("read");
+    let mut list = vec![0; LIST_WORDS];
+    let counts = run(&program, &mut list).expect("run");
+    let targets = decode(&list).expect("accepted").updates().map(|(update, _)| *update).collect();
+    (counts, targets)
+}
+
+#[test]
+fn both_have_56_updates_and_224_nodes() {
+    for text in [ORIGINAL, TILED] {
+        let (counts, _) = unrolled(text);
+        assert_eq!((counts.updates, counts.nodes), (56, 224));
+    }
+}
+
+#[test]
+fn the_tiled_variant_is_equal() {
+    assert_eq!(line_of_texts(ORIGINAL, TILED), "equal 32");
+    assert_eq!(line_of_texts(TILED, ORIGINAL), "equal 32");
+}
+
+/// Figure 3 lists the updates of both columns.
+#[test]
+fn the_updates_come_in_the_order_of_figure_3() {
+    let (a, b) = (0, 1);
+    let (_, original) = unrolled(ORIGINAL);
+    assert_eq!(original[0], [1, b, 1]);
+    assert_eq!(original[13..15], [[1, b, 14], [1, a, 1]]);
+    assert_eq!(original[55], [1, a, 14]);
+    let (_, tiled) = unrolled(TILED);
+    let first = [(b, 1), (b, 2), (a, 1), (b, 3), (a, 2), (b, 1), (b, 4), (a, 3), (b, 2), (a, 1)];
+    assert_eq!(tiled[..10], first.map(|(array, cell)| [1, array, cell]));
+    let last = [(b, 12), (a, 11), (a, 14), (b, 13), (a, 12), (b, 14), (a, 13), (a, 14)];
+    assert_eq!(tiled[48..], last.map(|(array, cell)| [1, array, cell]));
+}
+
+#[test]
+fn small_mistakes_in_the_tiled_variant_are_found() {
+    let mistake = |from: &str, to: &str| {
+        assert!(TILED.contains(from));
+        line_of_texts(ORIGINAL, &TILED.replace(from, to))
+    };
+    assert_eq!(mistake("for odd = 15 to 17", "for odd = 15 to 16"), "differs 0 14");
+    assert_eq!(mistake("add(A[0], A[1])", "add(A[1], A[0])"), "differs 0 1");
+    // The second time step overtakes the first.
+    assert_eq!(mistake("for c2 = 0 to 1", "for c2 = 1 to 0 step -1"), "differs 0 2");
+    // One tile less: B[14] is read and not yet written.
+    assert_eq!(mistake("- c0 + 14 >=", "- c0 + 13 >="), "refused right 17 43");
+}

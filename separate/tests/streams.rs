@@ -1,0 +1,138 @@
+//! Random streams: what they hold, and that a seed fixes them.
+
+use std::collections::BTreeMap;
+
+use separate::random::{ListPairs, Pairs};
+use separate::stream::{inputs, lists, write_input, write_lists, Cut};
+use separate::{line_of, Reply, Side, Work};
+
+/// How often each side and number, or "equal", or "differs", was replied.
+fn histogram(replies: impl Iterator<Item = Reply>) -> BTreeMap<String, usize> {
+    let mut counts = BTreeMap::new();
+    for reply in replies {
+        let line = line_of(reply).to_string();
+        let kind = match reply {
+            Reply::Refused { .. } => line.rsplit_once(' ').unwrap().0.to_string(),
+            _ => line.split_once(' ').unwrap().0.to_string(),
+        };
+        *counts.entry(kind).or_insert(0) += 1;
+    }
+    counts
+}
+
+#[test]
+fn two_thousand_pairs_cover_everything() {
+    for seed in [1, 2] {
+        let mut work = Work::default();
+        let counts = histogram(Pairs::new(seed).take(2_000).map(|input| work.input(&input)));
+        let count = |kind: &str| counts.get(kind).copied().unwrap_or(0);
+        assert!(count("equal") >= 450 && count("differs") >= 450, "{counts:?}");
+        assert!(count("refused input 1") >= 10, "{counts:?}");
+        for number in 2..=20 {
+            let left = count(&format!("refused left {number}"));
+            let right = count(&format!("refused right {number}"));
+            assert!(left >= 3 && right >= 3 && left + right >= 12, "{number} in {counts:?}");
+        }
+        for number in 22..=24 {
+            assert!(count(&format!("refused both {number}")) >= 10, "{number} in {counts:?}");
+        }
+        assert!(counts.keys().all(|kind| !kind.ends_with(" 21") && !kind.ends_with(" 25")));
+    }
+}
+
+#[test]
+fn a_seed_fixes_the_stream() {
+    let first: Vec<_> = Pairs::new(9).take(50).collect();
+    assert_eq!(first, Pairs::new(9).take(50).collect::<Vec<_>>());
+    assert_ne!(first, Pairs::new(10).take(50).collect::<Vec<_>>());
+    let lists: Vec<_> = ListPairs::new(9).take(20).collect();
+    assert_eq!(lists, ListPairs::new(9).take(20).collect::<Vec<_>>());
+}
+
+#[test]
+fn some_pairs_are_large() {
+    let mut work = Work::default();
+    let (mut rounds, mut updates, mut nodes, mut bytes) = (0, 0, 0, 0);
+    let mut list = vec![0; separate::limits::LIST_WORDS];
+    for input in Pairs::new(1).take(2_000) {
+        if !matches!(work.input(&input), Reply::Equal { .. } | Reply::Differs { .. }) {
+            continue;
+        }
+        let left = usize::from(u16::from_le_bytes([input[0], input[1]]));
+        for program in [&input[2..2 + left], &input[2 + left..]] {
+            let program = separate::read_program(program).unwrap();
+            let counts = separate::run::run(&program, &mut list).unwrap();
+            rounds = rounds.max(counts.rounds);
+            updates = updates.max(counts.updates);
+            nodes = nodes.max(counts.nodes);
+        }
+        bytes = bytes.max(left);
+    }
+    assert!(rounds > 60_000, "{rounds}");
+    assert!(updates > 1_900, "{updates}");
+    assert!(nodes > 7_500, "{nodes}");
+    assert!(bytes > 10_000, "{bytes}");
+}
+
+#[test]
+fn two_thousand_list_pairs_cover_everything() {
+    let mut work = Work::default();
+    let replies = ListPairs::new(1)
+        .take(2_000)
+        .map(|pair| work.lists(&pair.left.slice(), &pair.right.slice(), pair.mask));
+    let counts = histogram(replies);
+    for (kind, least) in [
+        ("equal", 400),
+        ("differs", 200),
+        ("refused left 26", 100),
+        ("refused right 26", 100),
+        ("refused both 22", 15),
+        ("refused both 23", 10),
+        ("refused both 24", 10),
+        ("refused both 25", 40),
+    ] {
+        assert!(counts.get(kind).is_some_and(|&count| count >= least), "{kind} in {counts:?}");
+    }
+    assert_eq!(counts.len(), 8, "{counts:?}");
+}
+
+#[test]
+fn streams_are_read_as_they_are_written() {
+    let pairs: Vec<_> = Pairs::new(4).take(100).collect();
+    let mut stream = Vec::new();
+    pairs.iter().for_each(|input| write_input(&mut stream, input).unwrap());
+    let read: Vec<_> = inputs(&stream).map(|input| input.unwrap().to_vec()).collect();
+    assert_eq!(read, pairs);
+    let list_pairs: Vec<_> = ListPairs::new(4).take(30).collect();
+    let mut stream = Vec::new();
+    list_pairs.iter().for_each(|pair| write_lists(&mut stream, pair).unwrap());
+    let read: Vec<_> = lists(&stream).map(|pair| pair.unwrap()).collect();
+    assert_eq!(read, list_pairs);
+}
+
+#[test]
+fn a_cut_stream_is_seen() {
+    let stream = [3, 0, 0, 0, 7, 7, 7, 2, 0, 0, 0, 9];
+    let read: Vec<_> = inputs(&stream).collect();
+    assert_eq!(read, [Ok(&[7, 7, 7][..]), Err(Cut)]);
+    assert_eq!(inputs(&stream[..9]).last(), Some(Err(Cut)));
+    assert_eq!(inputs(&[]).next(), None);
+    // More words stored than the slice has.
+    let stream = [0, 0, 0, 0, 0, 0, 1, 0, 0, 0, 5, 0, 0, 0];
+    assert_eq!(lists(&stream).collect::<Vec<_>>(), [Err(Cut)]);
+}
+
+/// The right side is looked at only when the left has no refusal.
+#[test]
+fn right_refusals_have_an_accepted_left() {
+    let mut work = Work::default();
+    let mut seen = 0;
+    for input in Pairs::new(6).take(600) {
+        if let Reply::Refused { side: Side::Right, .. } = work.input(&input) {
+            let left = usize::from(u16::from_le_bytes([input[0], input[1]]));
+            assert_eq!(work.refusal(&input[2..2 + left]), None);
+            seen += 1;
+        }
+    }
+    assert!(seen > 60, "{seen}");
+}
