@@ -1,2 +1,13 @@
 pub mod Same
 pub mod Count
+pub mod Walks
+pub mod Words
+pub mod Cases
+pub mod Zeros
+pub mod Chains
+pub mod Nodes
+pub mod Trees
+pub mod Sets
+pub mod Members
+pub mod Laws
+pub mod Number
