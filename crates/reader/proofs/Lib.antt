@@ -1,1 +1,14 @@
 pub mod Binds
+pub mod Numbers
+pub mod Lists
+pub mod Bytes
+pub mod Steps
+pub mod Affine
+pub mod Packing
+pub mod Forward
+pub mod Nodes
+pub mod Runs
+pub mod Heads
+pub mod Stores
+pub mod Whole
+pub mod Laws

@@ -1,3 +1,7 @@
 pub mod Field
 pub mod Syntax
 pub mod Grammar
+pub mod Answers
+pub mod Entries
+pub mod Parts
+pub mod Verdicts

@@ -1,0 +1,15 @@
+use native.Mathlib.Omega.{arith}
+use Rattle.reader.specs.Grammar.{expression}
+use borrow.Author.Needs.{needs}
+use Rattle.reader.proofs.expressions.expression_end.Statement.{statement}
+use Rattle.reader.proofs.expressions.expression_end.Tie as tie
+
+node-requires : tie.Need-node-requires
+node-requires c κs = search needs
+
+returns : tie.Need-returns
+unfolding expression
+returns c = c .node .ensures
+
+pub expression-end-spec : {M : Type 1} → statement M
+expression-end-spec = tie.close (tie.spec node-requires returns)

@@ -1,0 +1,123 @@
+-- What the entries answer beyond the grammar: definitions for every depth and number of loops, and what stands in a result's fields.
+use Prim.Native.Nat.{ℕ, zero, suc, _+_, _-_, _*_, min}
+use mathlib.Core.List.{List, [], _∷_, _++_, map}
+use mathlib.Core.Bool.{_&&_}
+use lib.ListN.{length, getD, take, replicate}
+use lib.Dec.{leb}
+use lib.IntN.{ℤ, pos}
+use mir.Syntax.{w8}
+use mir.Val.{toZ}
+use mathlib.Core.Path.{_≡_}
+use Rattle.model.specs.Test.{if_then_else_}
+use Rattle.reader.specs.Field.{Outcome, got, no, Reader}
+use Rattle.model.specs.Tables.{Array, Tables, cells}
+use Rattle.reader.specs.Syntax.{Form, Items}
+use Rattle.reader.specs.Grammar.{form, body}
+use Rattle.reader.specs.Answers.{placed}
+use Rattle.reader.specs.declared.fields.Place.{Place}
+use Rattle.reader.specs.declared.fields.Place.the-variants as place
+use Rattle.reader.specs.declared.forms.FormRead.{FormRead}
+use Rattle.reader.specs.declared.tables.Tables.{Tables as Packed}
+use Rattle.reader.specs.declared.tables.TablesRead.{TablesRead}
+
+-- n of them, z where the list has no more
+abbrev pub padded : {A : Type 0} → ℕ → A → List A → List A
+padded n z l = l ++ replicate (n - length l) z
+
+-- n bytes as two's complement
+unfoldable pub signeds : ℕ → List ℕ → ℕ → List ℤ
+signeds zero s at = []
+signeds (suc n) s at = toZ w8 (getD s at 0) ∷ signeds n s (at + 1)
+
+-- A form inside any number of loops. No file nests more than 8, so more are refused by 12.
+unfoldable pub formStep : ℕ → Reader Form
+formStep loops s at = if leb loops 8 then form loops s at else no 12 at
+
+abbrev pub formSays : ℕ → FormRead → Outcome Form
+formSays loops r = placed (r .answer) (record { constant = r .constant; coefficients = take loops (r .coefficients) })
+
+-- 0, and zeros, on a refusal
+abbrev pub constantIn : Outcome Form → ℤ
+constantIn (got f next) = f .constant
+constantIn (no number at) = pos 0
+
+abbrev pub coefficientsIn : Outcome Form → List ℤ
+coefficientsIn (got f next) = padded 8 (pos 0) (f .coefficients)
+coefficientsIn (no number at) = replicate 8 (pos 0)
+
+-- a form's answer says the outcome m, and its fields hold nothing else
+pub record FormIs (loops : ℕ) (m : Outcome Form) (r : FormRead) : Type 0 where
+  pub says : formSays loops r ≡ m
+  pub constant : r .constant ≡ constantIn m
+  pub coefficients : r .coefficients ≡ coefficientsIn m
+
+-- n elements of a list, from `from` on
+unfoldable pub cut : ℕ → ℕ → List ℕ → List ℕ
+cut zero from l = []
+cut (suc n) from l = getD l from 0 ∷ cut n (from + 1) l
+
+-- The tables that a `Tables` of the code stands for, whatever it holds: at most 16 operators, 16 arrays, 3 dimensions count.
+unfoldable pub arrayOf : Packed → ℕ → Array
+arrayOf t a = record { role = getD (t .roles) a 0; extents = cut (min (getD (t .dimensions) a 0) 3) (3 * a) (t .extents) }
+
+-- n arrays, from number a on
+unfoldable pub arraysOf : Packed → ℕ → ℕ → List Array
+arraysOf t zero a = []
+arraysOf t (suc n) a = arrayOf t a ∷ arraysOf t n (a + 1)
+
+unfoldable pub unpacked : Packed → Tables
+unpacked t = record { arities = cut (min (t .operators) 16) 0 (t .arities); arrays = arraysOf t (min (t .arrays) 16) 0 }
+
+-- three extents an array, 0 where it has fewer dimensions
+unfoldable pub threes : List Array → List ℕ
+threes [] = []
+threes (x ∷ xs) = padded 3 0 (x .extents) ++ threes xs
+
+-- cells before each array, b before the first; last, those of all
+unfoldable pub bases : ℕ → List Array → List ℕ
+bases b [] = b ∷ []
+bases b (x ∷ xs) = b ∷ bases (b + cells (x .extents)) xs
+
+-- the `Tables` of the code that holds these tables and zeros
+unfoldable pub packed : Tables → Packed
+packed t =
+    record {
+      operators = length (t .arities);
+      arities = padded 16 0 (t .arities);
+      arrays = length (t .arrays);
+      roles = padded 16 0 (map (λ x. x .role) (t .arrays));
+      dimensions = padded 16 0 (map (λ x. length (x .extents)) (t .arrays));
+      extents = padded 48 0 (threes (t .arrays));
+      bases = padded 17 0 (bases 0 (t .arrays));
+    }
+
+unfoldable pub noTables : Packed
+noTables =
+    record {
+      operators = 0;
+      arities = replicate 16 0;
+      arrays = 0;
+      roles = replicate 16 0;
+      dimensions = replicate 16 0;
+      extents = replicate 48 0;
+      bases = replicate 17 0;
+    }
+
+-- all zeros on a refusal
+abbrev pub packedIn : Outcome Tables → Packed
+packedIn (got t next) = packed t
+packedIn (no number at) = noTables
+
+-- the answer says the outcome m, and the tables hold nothing else
+pub record TablesAre (m : Outcome Tables) (r : TablesRead) : Type 0 where
+  pub says : placed (r .answer) (unpacked (r .tables)) ≡ m
+  pub holds : r .tables ≡ packedIn m
+
+-- what follows a place that was found
+abbrev pub continued : Place → (ℕ → Outcome ℕ) → Outcome ℕ
+continued (place.Next next) f = f next
+continued (place.Not number at) f = no number at
+
+-- A run of items at any depth. No file has more than 8 left, or 8 loops, so more are refused by 12.
+unfoldable pub itemsStep : Tables → ℕ → ℕ → Reader Items
+itemsStep t left loops s at = if leb left 8 && leb loops 8 then body t (length s) left loops s at else no 12 at

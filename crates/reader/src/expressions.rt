@@ -1,0 +1,135 @@
+// Expressions, in prefix order. A node and the arguments of an operator are read by turns, at most 12 operators deep.
+ghost use mathlib.Core.Path.{_≡_};
+ghost use mathlib.Core.List.{[], _∷_};
+ghost use Rattle.reader.specs.Field.{times};
+ghost use Rattle.reader.specs.Syntax.{count, counts};
+ghost use Rattle.reader.specs.Syntax.Exprs.{none as noArgs, more as moreArgs};
+ghost use Rattle.reader.specs.Grammar.{form, readOf, literalOf, constantOf, node as nodeOf, applied, expression};
+ghost use Rattle.reader.specs.Answers.{through, ended, fieldSays, placeSays};
+ghost use Rattle.reader.specs.Entries.{unpacked};
+use crate::fields::Field;
+use crate::fields::Place;
+use crate::fields::byte_at;
+use crate::fields::index_at;
+use crate::fields::name_at;
+use crate::forms::form_end;
+use crate::tables::Tables;
+use crate::tables::arity_of;
+use crate::tables::array_count;
+use crate::tables::dimensions_of;
+use crate::tables::operator_count;
+
+// The end of n forms in a row.
+pub(crate) fn forms_end(s: &[u8], at: usize, loops: usize, n: usize) -> Place
+    ensures { λ r. ⌜ placeSays r ≡ ended (times [] _∷_ (form loops) n (now (s .entry)) at) ⌝ }
+{
+    let mut place = at;
+    let mut left = n;
+    while 0 < left {
+        match form_end(s, place, loops) {
+            Place::Not(number, p) => {
+                return Place::Not(number, p);
+            }
+            Place::Next(next) => {
+                place = next;
+                left -= 1;
+            }
+        }
+    }
+    Place::Next(place)
+}
+
+// One node that ends at a place.
+fn one_node(end: Place) -> Field
+    ensures { λ r. ⌜ fieldSays r ≡ through (λ _. 1) (placeSays end) ⌝ }
+{
+    match end {
+        Place::Not(number, place) => Field::Not(number, place),
+        Place::Next(next) => Field::Is(1, next),
+    }
+}
+
+fn read_end(s: &[u8], at: usize, tables: Tables, loops: usize) -> Field
+    ensures { λ r. ⌜ fieldSays r ≡ through count (readOf (unpacked «tables») loops (now (s .entry)) at) ⌝ }
+{
+    match index_at(s, at, array_count(tables)) {
+        Field::Not(number, place) => Field::Not(number, place),
+        Field::Is(array, next) => one_node(forms_end(s, next, loops, dimensions_of(tables, array))),
+    }
+}
+
+fn literal_end(s: &[u8], at: usize, tables: Tables, loops: usize) -> Field
+    ensures { λ r. ⌜ fieldSays r ≡ through count (literalOf (unpacked «tables») loops (now (s .entry)) at) ⌝ }
+{
+    one_node(form_end(s, at, loops))
+}
+
+fn constant_end(s: &[u8], at: usize, tables: Tables, loops: usize) -> Field
+    ensures { λ r. ⌜ fieldSays r ≡ through count (constantOf (unpacked «tables») loops (now (s .entry)) at) ⌝ }
+{
+    match name_at(s, at) {
+        Field::Not(number, place) => Field::Not(number, place),
+        Field::Is(_, next) => Field::Is(1, next),
+    }
+}
+
+// A node at `at`, in which operators may nest `left` deep: its nodes and its end.
+fn node(s: &[u8], at: usize, tables: Tables, loops: usize, left: usize) -> Field
+    ensures { λ r. ⌜ fieldSays r ≡ through count (nodeOf (unpacked «tables») loops (applied (unpacked «tables») loops left) (now (s .entry)) at) ⌝ }
+{
+    match byte_at(s, at) {
+        Field::Not(number, place) => Field::Not(number, place),
+        Field::Is(code, next) => match code {
+            0x10 => read_end(s, next, tables, loops),
+            0x11 => operator(s, at, next, tables, loops, left),
+            0x12 => literal_end(s, next, tables, loops),
+            0x13 => constant_end(s, next, tables, loops),
+            _ => Field::Not(9, at),
+        },
+    }
+}
+
+// What follows an operator's code, which stands at `code`.
+fn operator(s: &[u8], code: usize, at: usize, tables: Tables, loops: usize, left: usize) -> Field
+    ensures { λ r. ⌜ fieldSays r ≡ through count (applied (unpacked «tables») loops left code (now (s .entry)) at) ⌝ }
+{
+    if left == 0 {
+        return Field::Not(12, code);
+    }
+    match index_at(s, at, operator_count(tables)) {
+        Field::Not(number, place) => Field::Not(number, place),
+        Field::Is(o, next) => match args(s, next, tables, loops, left - 1, arity_of(tables, o)) {
+            Field::Not(number, place) => Field::Not(number, place),
+            Field::Is(nodes, end) => Field::Is(nodes + 1, end),
+        },
+    }
+}
+
+// n arguments in a row: the nodes of all, and their end.
+fn args(s: &[u8], at: usize, tables: Tables, loops: usize, left: usize, n: usize) -> Field
+    ensures { λ r. ⌜ fieldSays r ≡ through counts (times noArgs moreArgs (nodeOf (unpacked «tables») loops (applied (unpacked «tables») loops left)) n (now (s .entry)) at) ⌝ }
+{
+    let mut place = at;
+    let mut more = n;
+    let mut nodes: usize = 0;
+    while 0 < more {
+        match node(s, place, tables, loops, left) {
+            Field::Not(number, p) => {
+                return Field::Not(number, p);
+            }
+            Field::Is(k, next) => {
+                nodes += k;
+                place = next;
+                more -= 1;
+            }
+        }
+    }
+    Field::Is(nodes, place)
+}
+
+// The expression at `at`: the number of its nodes and the place past it.
+pub fn expression_end(s: &[u8], at: usize, tables: Tables, loops: usize) -> Field
+    ensures { λ r. ⌜ fieldSays r ≡ through count (expression (unpacked «tables») loops (now (s .entry)) at) ⌝ }
+{
+    node(s, at, tables, loops, 12)
+}

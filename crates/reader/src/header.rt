@@ -1,0 +1,360 @@
+// The head of a file: mark, version, operator table and array table, up to the first item.
+ghost use mathlib.Core.Path.{_≡_};
+ghost use Prim.Native.Nat.{ℕ, _+_, _*_, _≤_, _<_};
+ghost use mathlib.Core.List.{List, [], _∷_};
+ghost use mathlib.Core.Bool.{false};
+ghost use lib.ListN.{length};
+ghost use Rattle.model.specs.Test.{within};
+ghost use Rattle.reader.specs.Field.{times};
+ghost use Rattle.reader.specs.Grammar.{head, arity, extent, array as arrayReader, arrays as arraysReader, tables as tablesReader};
+ghost use Rattle.reader.specs.Answers.{ended, placeSays, fieldSays};
+ghost use Rattle.reader.specs.Entries.{padded, packed, noTables, TablesAre};
+ghost use Rattle.reader.specs.Parts.{checked, roleTest, arrayTable, tablesWith, AritiesAre, ExtentsAre, ArrayIs, ArraysAre, withArray};
+ghost use Rattle.reader.specs.declared.fields.Place.the-variants as place;
+use crate::fields::Field;
+use crate::fields::Place;
+use crate::fields::byte_at;
+use crate::fields::has;
+use crate::fields::u16_at;
+use crate::tables::Tables;
+use crate::tables::TablesRead;
+
+// Three bytes as a number, the lowest first.
+fn triple(a: u8, b: u8, c: u8) -> usize
+    ensures { λ r. ⌜ r ≡ a + 256 * (b + 256 * c) ⌝ }
+{
+    a as usize + 256 * (b as usize + 256 * (c as usize))
+}
+
+// The mark `ALP` and version 1.
+fn head_end(s: &[u8], at: usize) -> Place
+    ensures { λ r. ⌜ placeSays r ≡ ended (head (now (s .entry)) at) ⌝ }
+{
+    if has(s, at, 3) {
+        if triple(s[at], s[at + 1], s[at + 2]) != 0x50_4C_41 {
+            return Place::Not(4, at);
+        }
+        let version = at + 3;
+        match u16_at(s, version) {
+            Field::Not(number, place) => Place::Not(number, place),
+            Field::Is(v, next) => {
+                if v == 1 {
+                    Place::Next(next)
+                } else {
+                    Place::Not(5, version)
+                }
+            }
+        }
+    } else {
+        Place::Not(3, at)
+    }
+}
+
+// Arities beside the place past them.
+struct AritiesRead {
+    answer: Place,
+    arities: [u8; 16],
+}
+
+fn arities_at(s: &[u8], at: usize, n: usize) -> AritiesRead
+    requires { ⌜ n ≤ 16 ⌝ }
+    ensures { λ r. ⌜ AritiesAre n (times [] _∷_ arity n (now (s .entry)) at) r ⌝ }
+{
+    let mut arities = [0u8; 16];
+    let mut place = at;
+    let mut k: usize = 0;
+    while k < n {
+        match count_at(s, place, 6, 1, 4) {
+            Field::Not(number, p) => {
+                return AritiesRead {
+                    answer: Place::Not(number, p),
+                    arities,
+                };
+            }
+            Field::Is(x, next) => {
+                arities[k] = x as u8;
+                place = next;
+                k += 1;
+            }
+        }
+    }
+    AritiesRead {
+        answer: Place::Next(place),
+        arities,
+    }
+}
+
+// A role, where a local came just before it or not.
+fn role_at(s: &[u8], at: usize, after: bool) -> Field
+    ensures { λ r. ⌜ fieldSays r ≡ checked 7 (roleTest after) (now (s .entry)) at ⌝ }
+{
+    match byte_at(s, at) {
+        Field::Not(number, place) => Field::Not(number, place),
+        Field::Is(x, next) => {
+            if x == 3 {
+                return Field::Is(x, next);
+            }
+            if x < 3 {
+                if !after {
+                    return Field::Is(x, next);
+                }
+            }
+            Field::Not(7, at)
+        }
+    }
+}
+
+// A count or arity from `low` to `high`; else `number` is refused.
+fn count_at(s: &[u8], at: usize, number: u8, low: usize, high: usize) -> Field
+    ensures { λ r. ⌜ fieldSays r ≡ checked number (within low high) (now (s .entry)) at ⌝ }
+{
+    match byte_at(s, at) {
+        Field::Not(question, place) => Field::Not(question, place),
+        Field::Is(x, next) => {
+            if low <= x {
+                if x <= high {
+                    return Field::Is(x, next);
+                }
+            }
+            Field::Not(number, at)
+        }
+    }
+}
+
+fn extent_at(s: &[u8], at: usize) -> Field
+    ensures { λ r. ⌜ fieldSays r ≡ extent (now (s .entry)) at ⌝ }
+{
+    match u16_at(s, at) {
+        Field::Not(number, place) => Field::Not(number, place),
+        Field::Is(x, next) => {
+            if 1 <= x {
+                if x <= 1024 {
+                    return Field::Is(x, next);
+                }
+            }
+            Field::Not(7, at)
+        }
+    }
+}
+
+// Extents beside their product and the place past them.
+struct ExtentsRead {
+    answer: Place,
+    extents: [u16; 3],
+    size: usize,
+}
+
+fn extents_at(s: &[u8], at: usize, n: usize) -> ExtentsRead
+    requires { ⌜ n ≤ 3 ⌝ }
+    ensures { λ r. ⌜ ExtentsAre n (times [] _∷_ extent n (now (s .entry)) at) r ⌝ }
+{
+    let mut extents = [0u16; 3];
+    let mut size: usize = 1;
+    let mut place = at;
+    let mut k: usize = 0;
+    while k < n {
+        match extent_at(s, place) {
+            Field::Not(number, p) => {
+                return ExtentsRead {
+                    answer: Place::Not(number, p),
+                    extents,
+                    size,
+                };
+            }
+            Field::Is(x, next) => {
+                extents[k] = x as u16;
+                size = size * x;
+                place = next;
+                k += 1;
+            }
+        }
+    }
+    ExtentsRead {
+        answer: Place::Next(place),
+        extents,
+        size,
+    }
+}
+
+// An array beside the number of its cells and the place past it.
+struct ArrayRead {
+    answer: Place,
+    role: usize,
+    dimensions: usize,
+    extents: [u16; 3],
+    size: usize,
+}
+
+fn no_array(number: u8, at: usize) -> ArrayRead
+    ensures { λ r. ⌜ r .answer ≡ place.Not number at ⌝ }
+{
+    ArrayRead {
+        answer: Place::Not(number, at),
+        role: 0,
+        dimensions: 0,
+        extents: [0u16; 3],
+        size: 0,
+    }
+}
+
+// An array, where a local came just before it or not, and so many cells before it.
+fn array_at(s: &[u8], at: usize, after: bool, before: usize) -> ArrayRead
+    requires { ⌜ before ≤ 2048 ⌝ }
+    ensures { λ r. ⌜ ArrayIs before (arrayReader after before (now (s .entry)) at) r ⌝ }
+{
+    match role_at(s, at, after) {
+        Field::Not(number, place) => no_array(number, place),
+        Field::Is(role, next) => match count_at(s, next, 7, 1, 3) {
+            Field::Not(number, place) => no_array(number, place),
+            Field::Is(dimensions, from) => {
+                let read = extents_at(s, from, dimensions);
+                let answer = read.answer;
+                let extents = read.extents;
+                let size = read.size;
+                match answer {
+                    Place::Not(number, place) => no_array(number, place),
+                    Place::Next(end) => {
+                        if before + size <= 2048 {
+                            ArrayRead {
+                                answer: Place::Next(end),
+                                role,
+                                dimensions,
+                                extents,
+                                size,
+                            }
+                        } else {
+                            no_array(8, at)
+                        }
+                    }
+                }
+            }
+        },
+    }
+}
+
+// One array more, as number k; `total` cells with it.
+fn with_array(tables: Tables, k: usize, x: ArrayRead, total: usize) -> Tables
+    requires { ⌜ (k < 16) × (x .role ≤ 3) × (x .dimensions ≤ 3) ⌝ }
+    ensures { λ r. ⌜ r ≡ withArray «tables» k x total ⌝ }
+{
+    let mut roles = tables.roles;
+    roles[k] = x.role as u8;
+    let mut dimensions = tables.dimensions;
+    dimensions[k] = x.dimensions as u8;
+    let from = x.extents;
+    let mut extents = tables.extents;
+    extents[3 * k] = from[0];
+    extents[3 * k + 1] = from[1];
+    extents[3 * k + 2] = from[2];
+    let mut bases = tables.bases;
+    bases[k + 1] = total;
+    let arities = tables.arities;
+    Tables {
+        operators: tables.operators,
+        arities,
+        arrays: k + 1,
+        roles,
+        dimensions,
+        extents,
+        bases,
+    }
+}
+
+// n arrays, put into tables that hold none.
+fn arrays_at(s: &[u8], at: usize, n: usize, empty: Tables) -> TablesRead
+    requires { ⌜ n ≤ 16 ⌝ }
+    ensures { λ r. ⌜ ((ops : List ℕ) → empty ≡ packed (record { arities = ops; arrays = [] }) → ArraysAre n ops (arraysReader n false 0 (now (s .entry)) at) r) ⌝ }
+{
+    let mut tables = empty;
+    let mut after = false;
+    let mut before: usize = 0;
+    let mut place = at;
+    let mut k: usize = 0;
+    while k < n {
+        let x = array_at(s, place, after, before);
+        let answer = x.answer;
+        match answer {
+            Place::Not(number, p) => {
+                return TablesRead {
+                    answer: Place::Not(number, p),
+                    tables,
+                };
+            }
+            Place::Next(next) => {
+                before += x.size;
+                tables = with_array(tables, k, x, before);
+                after = x.role == 3;
+                place = next;
+                k += 1;
+            }
+        }
+    }
+    TablesRead {
+        answer: Place::Next(place),
+        tables,
+    }
+}
+
+fn no_tables(number: u8, at: usize) -> TablesRead
+    ensures { λ r. ⌜ (r .answer ≡ place.Not number at) × (r .tables ≡ noTables) ⌝ }
+{
+    TablesRead {
+        answer: Place::Not(number, at),
+        tables: Tables {
+            operators: 0,
+            arities: [0u8; 16],
+            arrays: 0,
+            roles: [0u8; 16],
+            dimensions: [0u8; 16],
+            extents: [0u16; 48],
+            bases: [0usize; 17],
+        },
+    }
+}
+
+// The array table, behind an operator table that was read.
+fn arrays_of(s: &[u8], at: usize, operators: usize, arities: [u8; 16]) -> TablesRead
+    ensures { λ r. ⌜ ((ops : List ℕ) → length ops ≡ operators → length ops ≤ 16 → arities ≡ padded 16 0 ops → TablesAre (tablesWith ops (arrayTable (now (s .entry)) at)) r) ⌝ }
+{
+    match count_at(s, at, 7, 1, 16) {
+        Field::Not(number, place) => no_tables(number, place),
+        Field::Is(n, next) => {
+            let empty = Tables {
+                operators,
+                arities,
+                arrays: 0,
+                roles: [0u8; 16],
+                dimensions: [0u8; 16],
+                extents: [0u16; 48],
+                bases: [0usize; 17],
+            };
+            let read = arrays_at(s, next, n, empty);
+            let answer = read.answer;
+            match answer {
+                Place::Not(number, place) => no_tables(number, place),
+                Place::Next(_) => read,
+            }
+        }
+    }
+}
+
+// The tables of a program, beside the place of its first item.
+pub fn tables_of(program: &[u8]) -> TablesRead
+    ensures { λ r. ⌜ TablesAre (tablesReader (now (program .entry)) 0) r ⌝ }
+{
+    match head_end(program, 0) {
+        Place::Not(number, place) => no_tables(number, place),
+        Place::Next(at) => match count_at(program, at, 6, 0, 16) {
+            Field::Not(number, place) => no_tables(number, place),
+            Field::Is(n, next) => {
+                let read = arities_at(program, next, n);
+                let answer = read.answer;
+                let arities = read.arities;
+                match answer {
+                    Place::Not(number, place) => no_tables(number, place),
+                    Place::Next(end) => arrays_of(program, end, n, arities),
+                }
+            }
+        },
+    }
+}
