@@ -10,7 +10,7 @@ use lib.Dec.{leb}
 use borrow.Author.Tests.{leb-true, leb-false, le-leb, lt-leb}
 use Rattle.model.specs.Test.{if_then_else_}
 use Rattle.model.specs.Update.{Listed}
-use Rattle.model.specs.Reply.{Reply, refused, left, right, input}
+use Rattle.model.specs.Reply.{Reply, equal, refused, left, right, input, isRefused}
 use Rattle.reader.specs.Field.{littleEndian, no}
 use Rattle.reader.specs.Grammar.{readProgram}
 use Rattle.unroller.specs.Run.{Ran, ok, stop}
@@ -18,7 +18,8 @@ use Rattle.unroller.specs.Unroll.{unrolledBy, unrolled}
 use Rattle.comparer.specs.Match.{listsReply}
 use Rattle.comparer.specs.Entry.{sideReply, programsReply, allBits, framedReply, inputReply}
 use Rattle.comparer.specs.Rows.{framed}
-use Rattle.comparer.specs.Claims.{InputCut}
+use Rattle.comparer.specs.Claims.{InputCut, SameValues, EqualInput}
+use Rattle.comparer.proofs.Theorems.{demand2-programs}
 
 -- a frame around two programs, the left within its limit
 pub framed-programs : (l r : List ℕ) → length l ≤ 16384 → inputReply (framed l r) ≡ programsReply allBits l r
@@ -61,3 +62,26 @@ input-cut [] = refl
 input-cut (a ∷ []) = refl
 input-cut (a ∷ b ∷ t) =
     rw (le-leb 2 (length (take 32771 (a ∷ b ∷ t))) (omega arith), le-leb 2 (length (a ∷ b ∷ t)) (omega arith)) (framed-cut (a + 256 * (b + 256 * 0)) t)
+
+-- a frame that is answered "equal" holds two programs that are
+pub equal-input : EqualInput
+unfolding inputReply
+equal-input s n e = go (leb 2 (length s)) e
+  where
+    said : programsReply allBits (take (littleEndian 2 s 0) (drop 2 s)) (drop (littleEndian 2 s 0) (drop 2 s)) ≡ equal n
+        → SameValues (take (littleEndian 2 s 0) (drop 2 s)) (drop (littleEndian 2 s 0) (drop 2 s)) n
+    said r =
+        let t = demand2-programs allBits (take (littleEndian 2 s 0) (drop 2 s)) (drop (littleEndian 2 s 0) (drop 2 s)) (ap isRefused r) in
+        let q = t .told .same n .0 r in
+        record { l = t .l; r = t .r; isLeft = t .isLeft; isRight = t .isRight; count = q .0; agree = q .1 }
+
+    inner : (b c : Bool) → (if b then (if c then programsReply allBits (take (littleEndian 2 s 0) (drop 2 s)) (drop (littleEndian 2 s 0) (drop 2 s)) else refused input 1 0) else refused left 2 0) ≡ equal n
+        → SameValues (take (littleEndian 2 s 0) (drop 2 s)) (drop (littleEndian 2 s 0) (drop 2 s)) n
+    inner true true r = said r
+    inner true false r = absurd (let z : _≡_ {A = ℕ} 0 1 = cc in omega arith)
+    inner false c r = absurd (let z : _≡_ {A = ℕ} 0 1 = cc in omega arith)
+
+    go : (b : Bool) → (if b then framedReply (littleEndian 2 s 0) (drop 2 s) else refused input 1 0) ≡ equal n
+        → SameValues (take (littleEndian 2 s 0) (drop 2 s)) (drop (littleEndian 2 s 0) (drop 2 s)) n
+    go true r = inner (leb (littleEndian 2 s 0) 16384) (leb (littleEndian 2 s 0) (length (drop 2 s))) r
+    go false r = absurd (let z : _≡_ {A = ℕ} 0 1 = cc in omega arith)

@@ -6,19 +6,20 @@ use mathlib.Core.Logic.{_↔_}
 use mathlib.Core.List.{List, map}
 use mathlib.Core.Bool.{true, false, _||_, not}
 use mathlib.Core.Option.{Option, some}
-use lib.ListN.{length, getD, take}
+use lib.ListN.{length, getD, take, drop}
 use Rattle.model.specs.Tables.{arrayAt, local}
 use Rattle.model.specs.Update.{Tree, Listed, written}
-use Rattle.model.specs.Reply.{Reply, isRefused}
+use Rattle.model.specs.Reply.{Reply, equal, isRefused}
+use Rattle.reader.specs.Field.{littleEndian}
 use Rattle.unroller.specs.Run.{Ran, ok}
 use Rattle.unroller.specs.Allowed.{allowed}
 use Rattle.unroller.specs.Layout.{layout}
 use Rattle.unroller.specs.Decode.{decode, accepted}
 use Rattle.unroller.specs.Unroll.{unrolled}
 use Rattle.comparer.specs.Meaning.{Meaning, Content, valueOf, after, free}
-use Rattle.comparer.specs.Match.{listsReply}
-use Rattle.comparer.specs.Entry.{wordsReply, programsReply, inputReply}
-use Rattle.comparer.specs.Told.{Shared, Told}
+use Rattle.comparer.specs.Match.{comparedSize, listsReply}
+use Rattle.comparer.specs.Entry.{wordsReply, programsReply, allBits, inputReply}
+use Rattle.comparer.specs.Told.{Compared, Shared, Agree, Told}
 use Rattle.comparer.specs.Order.{NewOrder, reorder}
 use Rattle.comparer.specs.Rows.{Row, framed, starred}
 
@@ -89,6 +90,21 @@ UnrolledAllowed = (bytes : List ℕ) (l : Listed) → ((i : ℕ) → getD bytes 
 -- No input is answered otherwise for being cut behind byte 32,771, which is what the program reads.
 abbrev pub InputCut : Type 0
 InputCut = (s : List ℕ) → inputReply (take 32771 s) ≡ inputReply s
+
+-- For readers: an "equal" to framed input means that the two programs in it run, and leave the same value in each compared
+-- element for every starting content and every meaning, with no other hypothesis.
+pub record SameValues (one other : List ℕ) (n : ℕ) : Type 1 where
+  pub l : Listed
+  pub r : Listed
+  pub isLeft : unrolled one ≡ ok l
+  pub isRight : unrolled other ≡ ok r
+  pub count : n ≡ comparedSize allBits 0 (l .tables .arrays)
+  pub agree : (a e : ℕ) → Compared allBits l a e → Agree l r a e
+
+abbrev pub EqualInput : Type 1
+EqualInput =
+    (s : List ℕ) (n : ℕ) → inputReply s ≡ equal n
+    → SameValues (take (littleEndian 2 s 0) (drop 2 s)) (drop (littleEndian 2 s 0) (drop 2 s)) n
 
 -- The ten starred rows, for any right-hand bytes where the paper says "any".
 abbrev pub StarredRows : Type 0
