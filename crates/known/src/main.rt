@@ -2,10 +2,19 @@
 mod rows;
 
 fn main() {
-    rows::rows();
-    rows::heads();
+    rows::accepted();
+    rows::refused();
+    rows::cut_and_longer();
+    rows::marks();
+    rows::operators();
+    rows::roles();
+    rows::dimensions();
     rows::sizes();
-    rows::items();
-    rows::expressions();
+    rows::nesting();
+    rows::targets();
+    rows::loops_and_guards();
+    rows::nodes();
+    rows::operators_deep();
+    rows::ends();
     rows::lengths();
 }
