@@ -20,7 +20,7 @@ use crate::tables::dimensions_of;
 use crate::tables::operator_count;
 
 // The end of n forms in a row.
-pub(crate) fn forms_end(s: &[u8], at: usize, loops: usize, n: usize) -> Place
+pub fn forms_end(s: &[u8], at: usize, loops: usize, n: usize) -> Place
     ensures { λ r. ⌜ placeSays r ≡ ended (times [] _∷_ (form loops) n (now (s .entry)) at) ⌝ }
 {
     let mut place = at;

@@ -189,7 +189,7 @@ module _ (t : Tables) where
 -- what a reading gives is sound
 module _ {A : Type 0} where
   -- n readings in a row give a list as long as n
-  times-length : (one : Reader A) (n : ℕ) (s : List ℕ) (at : ℕ) {xs : List A} {next : ℕ} → times [] _∷_ one n s at ≡ got xs next → length xs ≡ n
+  pub times-length : (one : Reader A) (n : ℕ) (s : List ℕ) (at : ℕ) {xs : List A} {next : ℕ} → times [] _∷_ one n s at ≡ got xs next → length xs ≡ n
   unfolding times
   times-length one zero s at e = got-is (λ xs. length xs ≡ 0) {n = at} e refl
   times-length one (suc n) s at e =
@@ -262,7 +262,7 @@ arrays-read (suc n) after before s at h e =
       (let m = q .3 in omega arith),
     )
 
-tables-allowed : (s : List ℕ) (at : ℕ) {t : Tables} {next : ℕ} → tables s at ≡ got t next → TablesParts t
+pub tables-allowed : (s : List ℕ) (at : ℕ) {t : Tables} {next : ℕ} → tables s at ≡ got t next → TablesParts t
 unfolding tables operators
 tables-allowed s at e =
     read-by (head s at) _ e λ _ at1 _ r1.
@@ -287,14 +287,14 @@ tables-allowed s at e =
 abbrev pub Bytes : List ℕ → Type 0
 Bytes s = (i : ℕ) → getD s i 0 < 256
 
-index-below : (n : ℕ) (s : List ℕ) (at : ℕ) {x next : ℕ} → index n s at ≡ got x next → x < n
+pub index-below : (n : ℕ) (s : List ℕ) (at : ℕ) {x next : ℕ} → index n s at ≡ got x next → x < n
 unfolding index
 index-below n s at e =
     read-by (byte s at) _ e λ x at1 _ r1.
     asked-by 10 at (ltb x n) s at1 _ r1 λ h r2.
     got-is (λ x. x < n) r2 (ltb-true x n h)
 
-u32-below : (s : List ℕ) (at : ℕ) {x next : ℕ} → Bytes s → u32 s at ≡ got x next → x < 4294967296
+pub u32-below : (s : List ℕ) (at : ℕ) {x next : ℕ} → Bytes s → u32 s at ≡ got x next → x < 4294967296
 unfolding u32 field
 u32-below s at {x} {next} b e = go (leb (at + 4) (length s)) e
   where
@@ -308,7 +308,7 @@ u32-below s at {x} {next} b e = go (leb (at + 4) (length s)) e
     go false r = absurd (let z : _≡_ {A = ℕ} 0 1 = cc in omega arith)
 
 module _ (t : Tables) (loops : ℕ) (s : List ℕ) (b : Bytes s) where
-  subscripts-length : (a at : ℕ) {fs : List Form} {next : ℕ} → subscripts t loops a s at ≡ got fs next → length fs ≡ length (arrayAt (t .arrays) a .extents)
+  pub subscripts-length : (a at : ℕ) {fs : List Form} {next : ℕ} → subscripts t loops a s at ≡ got fs next → length fs ≡ length (arrayAt (t .arrays) a .extents)
   unfolding subscripts
   subscripts-length a at e = times-length (form loops) (length (arrayAt (t .arrays) a .extents)) s at e
 
@@ -348,7 +348,7 @@ module _ (t : Tables) (loops : ℕ) (s : List ℕ) (b : Bytes s) where
       read-by (times none more one (getD (t .arities) o 0) s at1) _ r1 λ es at2 e2 r2.
       got-is (λ e. Sound e t (suc left)) r2 (index-below (length (t .arities)) s at e1, arguments-sound left one h (getD (t .arities) o 0) at1 es at2 e2)
 
-  node-sound : (left : ℕ) (operates : ℕ → Reader Expr) → ((p at : ℕ) (e : Expr) (next : ℕ) → operates p s at ≡ got e next → Sound e t left)
+  pub node-sound : (left : ℕ) (operates : ℕ → Reader Expr) → ((p at : ℕ) (e : Expr) (next : ℕ) → operates p s at ≡ got e next → Sound e t left)
       → (at : ℕ) (e : Expr) (next : ℕ) → node t loops operates s at ≡ got e next → Sound e t left
   unfolding node
   node-sound left operates h at e next r =
@@ -362,13 +362,13 @@ module _ (t : Tables) (loops : ℕ) (s : List ℕ) (b : Bytes s) where
       go code at1 false false false true r1 = constant-sound left at1 e next r1
       go code at1 false false false false r1 = absurd (let z : _≡_ {A = ℕ} 0 1 = cc in omega arith)
 
-  applied-sound : (left : ℕ) (p at : ℕ) (e : Expr) (next : ℕ) → applied t loops left p s at ≡ got e next → Sound e t left
+  pub applied-sound : (left : ℕ) (p at : ℕ) (e : Expr) (next : ℕ) → applied t loops left p s at ≡ got e next → Sound e t left
   unfolding applied
   applied-sound zero p at e next r = absurd (let z : _≡_ {A = ℕ} 0 1 = cc in omega arith)
   applied-sound (suc left) p at e next r =
       apply-sound left (node t loops (applied t loops left)) (λ at e next r. node-sound left (applied t loops left) (λ p at e next r. applied-sound left p at e next r) at e next r) at e next r
 
-  statement-sound : (p at : ℕ) (i : Item) (next : ℕ) → statementOf t loops p s at ≡ got i next → SoundItem i t
+  pub statement-sound : (p at : ℕ) (i : Item) (next : ℕ) → statementOf t loops p s at ≡ got i next → SoundItem i t
   unfolding statementOf expression SoundItem
   statement-sound p at i next r =
       read-by (index (length (t .arrays)) s at) _ r λ a at1 _ r1.

@@ -39,13 +39,13 @@ accepted-complete l n a = by (list (layout l n)) (decode-layout l n a)
 mutual
   unfolding treeWords treesWords size sizes
 
-  tree-length : (t : Tree) → length (treeWords t) ≡ 3 * size t
+  pub tree-length : (t : Tree) → length (treeWords t) ≡ 3 * size t
   tree-length (cell a c) = refl
   tree-length (number z) = refl
   tree-length (constant n) = refl
   tree-length (operator o ts) = let e = trees-length ts in omega arith
 
-  trees-length : (ts : Trees) → length (treesWords ts) ≡ 3 * sizes ts
+  pub trees-length : (ts : Trees) → length (treesWords ts) ≡ 3 * sizes ts
   trees-length nil = refl
   trees-length (cons t ts) =
       let a = tree-length t in
@@ -61,7 +61,7 @@ updates-length (u ∷ us) =
     let c = length-append (treeWords (u .source)) (updatesWords us) in
     omega arith
 
-table-length : (t : Tables) → TablesParts t → length (tableWords t) ≡ 98
+pub table-length : (t : Tables) → TablesParts t → length (tableWords t) ≡ 98
 unfolding tableWords
 table-length t a =
     let l = arrays-length (t .arrays) (a .each) in
@@ -71,14 +71,16 @@ table-length t a =
     let r = length-append (padded 16 (t .arities)) (length (t .arrays) ∷ padded 80 (arraysWords (t .arrays))) in
     omega arith
 
-pub words-length : (l : Listed) → allowed l ≡ true → length (words l) ≡ 98 + 3 * (length (l .updates) + nodes (l .updates))
+pub words-long : (l : Listed) → TablesParts (l .tables) → length (words l) ≡ 98 + 3 * (length (l .updates) + nodes (l .updates))
 unfolding words
-words-length l e =
-    let a = list-parts l e in
-    let p = table-length (l .tables) (a .tables-allowed) in
+words-long l a =
+    let p = table-length (l .tables) a in
     let q = updates-length (l .updates) in
     let r = length-append (tableWords (l .tables)) (updatesWords (l .updates)) in
     omega arith
+
+pub words-length : (l : Listed) → allowed l ≡ true → length (words l) ≡ 98 + 3 * (length (l .updates) + nodes (l .updates))
+words-length l e = words-long l (list-parts l e .tables-allowed)
 
 pub words-fit : (l : Listed) → allowed l ≡ true → length (words l) ≤ 30818
 words-fit l e =
@@ -120,7 +122,7 @@ drop-replicate zero n = let e : n - 0 ≡ n = omega arith in rw e
 drop-replicate (suc m) zero = let e : 0 - suc m ≡ 0 = omega arith in rw e
 drop-replicate (suc m) (suc n) = let e : suc n - suc m ≡ n - m = omega arith in rw e (drop-replicate m n)
 
-padded-sets : (n : ℕ) (l vs : List ℕ) → length l + length vs ≤ n → sets (padded n l) (length l) vs ≡ padded n (l ++ vs)
+pub padded-sets : (n : ℕ) (l vs : List ℕ) → length l + length vs ≤ n → sets (padded n l) (length l) vs ≡ padded n (l ++ vs)
 padded-sets n l vs h =
     let r : List ℕ = replicate (n - length l) 0 in
     let a = padded-length n l (omega arith) in

@@ -4,8 +4,21 @@ pub mod Inverse
 pub mod Laws
 pub mod Runs
 pub mod Accepted
+pub mod Values
 pub mod Stands
+mod Indices
+mod WalkForward
+mod WalkItems
+mod Turns
+mod Ranges
+mod HeaderWords
+mod UnrollRun
+pub mod UnrollLaws
 pub mod CheckLaws
+mod Cells
+mod Records
+mod Scan
+mod Updating
 mod CheckWords
 mod CheckZeros
 mod CheckTrees

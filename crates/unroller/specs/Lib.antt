@@ -1,4 +1,5 @@
 pub mod Run
+pub mod Forms
 pub mod Words
 pub mod Allowed
 pub mod Layout
@@ -7,3 +8,7 @@ pub mod Unroll
 pub mod State
 pub mod CheckAnswers
 pub mod Stands
+pub mod Walk
+pub mod WalkItems
+pub mod UnrollAnswers
+pub mod Writes

@@ -1,0 +1,237 @@
+-- Numbers as words, and cells by their subscripts, as the code works them out.
+use mathlib.Core.Path.{_≡_, refl, sym, ap, _∙_, subst}
+use Prim.Native.Nat.{ℕ, zero, suc, _+_, _-_, _*_, _≤_, _<_, min}
+use native.Mathlib.Omega.{arith}
+use native.Mathlib.Numerals.{add-one}
+use native.Mathlib.Nat.{mul-le-mul, add-mul}
+use mathlib.Core.List.{List, [], _∷_}
+use mathlib.Core.Bool.{Bool, true, false, false≢true}
+use lib.ListN.{length, getD, drop, take, length-drop, List·getD-eq-default}
+use lib.Seq.{drop-cons}
+use lib.Dec.{T, ltb, leb}
+use lib.IntN.{ℤ, pos, negsuc, natAbs, _-ℤ_}
+use lib.Signed.{ltZ, nonNeg}
+use borrow.Author.Tests.{ltb-true, ltb-false, lt-ltb, le-ltb, leb-true}
+use mir.Syntax.{w32, w64}
+use mir.Val.{toZ, ofZ, SFits, Fits}
+use mir.Facts.{toZ-ofZ}
+use Rattle.model.specs.Tables.{Array, Tables, arrayAt}
+use Rattle.model.proofs.Abs.{sub-pos}
+use Rattle.reader.specs.Field.{Outcome, got, no, times}
+use Rattle.reader.specs.Syntax.{Form}
+use Rattle.reader.specs.Grammar.{form}
+use Rattle.reader.specs.Entries.{arrayOf, unpacked}
+use Rattle.reader.specs.declared.tables.Tables.{Tables as Packed}
+use Rattle.reader.proofs.Binds.{read-by, got-is}
+use Rattle.reader.proofs.Packing.{getD-cut, arrays-are, array-in, array-out, dimensions-in, dimensions-out}
+use Rattle.unroller.specs.Run.{Ran, ok, stop, _>>=_, fits32, worked, inExtent, cellFrom}
+use Rattle.unroller.specs.Forms.{ValueIs, Values}
+use Rattle.unroller.specs.Writes.{CellIs, Below, InExtent, Subscript, CellsFrom}
+use Rattle.unroller.specs.declared.forms.Valued.{Valued}
+use Rattle.unroller.specs.declared.forms.Valued.the-variants as valued
+use Rattle.unroller.specs.declared.statement.Cell.{Cell}
+use Rattle.unroller.specs.declared.statement.Cell.the-variants as cell
+use Rattle.unroller.proofs.Parts.{both}
+
+-- a signed number read back from its bits, by its sign
+module _ (v : ℤ) (f : SFits w64 v) where
+  abbrev back : ℤ
+  back = toZ w64 (ofZ w64 v)
+
+  same : back ≡ v
+  same = toZ-ofZ {w = w64} {z = v} f
+
+  pub sign-pos : ltZ back (pos 0) ≡ false → T (nonNeg back) × Fits w64 (natAbs back)
+  sign-pos e = rw same (go v f (rw same at e))
+    where
+      go : (v : ℤ) → SFits w64 v → ltZ v (pos 0) ≡ false → T (nonNeg v) × Fits w64 (natAbs v)
+      go (pos n) f e = (tt, record { fits = let h = f .sfits in omega arith })
+      go (negsuc n) f e = absurd (false≢true (sym e))
+
+  abbrev away : ℤ
+  away = negsuc 0 -ℤ back
+
+  -- the distance of a number below 0 from −1
+  away-is : ltZ back (pos 0) ≡ true → (n : ℕ) × (v ≡ negsuc n) × (away ≡ pos n) × (n < 9223372036854775808)
+  away-is e = go v f refl
+    where
+      go : (z : ℤ) → SFits w64 z → v ≡ z → (n : ℕ) × (v ≡ negsuc n) × (away ≡ pos n) × (n < 9223372036854775808)
+      go (pos n) g q = absurd (let h = ltb-true n 0 (rw (same, q) at e) in omega arith)
+      go (negsuc n) g q =
+          let k : suc n - 1 ≡ n = omega arith in
+          (n, q, rw (same, q) (sub-pos (suc n) 1 (omega arith) ∙ ap pos k), (let h = g .sfits in omega arith))
+
+  pub away-fits : ltZ back (pos 0) ≡ true → SFits w64 away
+  away-fits e = let a = away-is e in rw (a .2) (record { sfits = let h = a .3 in omega arith })
+
+  pub away-cast : ltZ back (pos 0) ≡ true → T (nonNeg (toZ w64 (ofZ w64 away))) × Fits w64 (natAbs (toZ w64 (ofZ w64 away)))
+  away-cast e = let a = away-is e in rw (toZ-ofZ {w = w64} {z = away} (away-fits e), a .2) (tt, record { fits = let h = a .3 in omega arith })
+
+  -- the word of a number of 32 signed bits
+  pub bits-neg : ltZ back (pos 0) ≡ true → (r : ℕ) → (natAbs (toZ w64 (ofZ w64 away)) < 4294967296 → r ≡ natAbs (toZ w64 (ofZ w64 away))) → fits32 v ≡ true → 4294967295 - r ≡ ofZ w32 v
+  bits-neg e r h t =
+      let a = away-is e in
+      let w : natAbs (toZ w64 (ofZ w64 away)) ≡ a .0 = ap natAbs (toZ-ofZ {w = w64} {z = away} (away-fits e) ∙ a .2) in
+      let u : fits32 (negsuc (a .0)) ≡ true = rw (a .1) at t in
+      let l = leb-true (a .0) 2147483647 (both (leb (a .0) 2147483647) true u .0) in
+      let k : r ≡ natAbs (toZ w64 (ofZ w64 away)) = h (omega arith) in
+      rw (a .1) (omega arith)
+
+  pub bits-pos : ltZ back (pos 0) ≡ false → (r : ℕ) → (natAbs back < 4294967296 → r ≡ natAbs back) → fits32 v ≡ true → r ≡ ofZ w32 v
+  bits-pos e r h t = go v (rw same at e) (rw same at h) t
+    where
+      go : (v : ℤ) → ltZ v (pos 0) ≡ false → (natAbs v < 4294967296 → r ≡ natAbs v) → fits32 v ≡ true → r ≡ ofZ w32 v
+      go (pos n) e h t = h (let l = leb-true n 2147483647 t in omega arith)
+      go (negsuc n) e h t = absurd (false≢true (sym e))
+
+  -- a subscript against its extent
+  module _ (e next : ℕ) where
+    pub extent-negative : ltZ back (pos 0) ≡ true → InExtent e v next (cell.No 16)
+    unfolding InExtent
+    extent-negative q p = go v (rw same at q)
+      where
+        go : (v : ℤ) → ltZ v (pos 0) ≡ true → CellIs (inExtent p e v) next (cell.No 16)
+        go (pos n) q = absurd (let h = ltb-true n 0 q in omega arith)
+        go (negsuc n) q = refl
+
+    pub extent-inside : ltZ back (pos 0) ≡ false → ltb (natAbs back) e ≡ true → InExtent e v next (cell.Is (natAbs back) next)
+    unfolding InExtent
+    extent-inside q h p = rw same (go v (rw same at q) (rw same at h))
+      where
+        go : (v : ℤ) → ltZ v (pos 0) ≡ false → ltb (natAbs v) e ≡ true → CellIs (inExtent p e v) next (cell.Is (natAbs v) next)
+        go (pos n) q h = rw h (refl, refl)
+        go (negsuc n) q h = absurd (false≢true (sym q))
+
+    pub extent-outside : ltZ back (pos 0) ≡ false → e ≤ natAbs back → InExtent e v next (cell.No 16)
+    unfolding InExtent
+    extent-outside q h p = go v (rw same at q) (rw same at (le-ltb (natAbs back) e h))
+      where
+        go : (v : ℤ) → ltZ v (pos 0) ≡ false → ltb (natAbs v) e ≡ false → CellIs (inExtent p e v) next (cell.No 16)
+        go (pos n) q h = rw h refl
+        go (negsuc n) q h = absurd (false≢true (sym q))
+
+-- a subscript, worked out and asked
+module _ (s : List ℕ) (at loops : ℕ) (is : List ℤ) (e : ℕ) where
+  pub subscript-no : (r : Valued) (k : ℕ) → Values s at loops is r → r ≡ valued.No k → Subscript s at loops is e (cell.No k)
+  unfolding Values Subscript
+  subscript-no r k h q f next p g l i = go (worked p (take loops is) f) (subst (λ (r : Valued). ValueIs (worked p (take loops is) f) next r) q (h f next p g l i))
+    where
+      go : (m : Ran ℤ) → ValueIs m next (valued.No k) → CellIs (m >>= inExtent p e) next (cell.No k)
+      go (ok v) x = absurd x
+      go (stop question place) x = x
+
+  -- the value is handed on by its bits
+  pub subscript-is : (r : Valued) (v : ℤ) (to : ℕ) (a : Cell) → SFits w64 v → Values s at loops is r → r ≡ valued.Is v to → InExtent e (toZ w64 (ofZ w64 v)) to a → Subscript s at loops is e a
+  unfolding Values Subscript InExtent
+  subscript-is r v to a b h q x f next p g l i = go (worked p (take loops is) f) (subst (λ (r : Valued). ValueIs (worked p (take loops is) f) next r) q (h f next p g l i))
+    where
+      go : (m : Ran ℤ) → ValueIs m next (valued.Is v to) → CellIs (m >>= inExtent p e) next a
+      go (ok w) y = subst (λ (z : ℤ). CellIs (inExtent p e z) next a) (y .0) (subst (λ (n : ℕ). CellIs (inExtent p e v) n a) (y .1) (subst (λ (z : ℤ). CellIs (inExtent p e z) to a) (toZ-ofZ {w = w64} {z = v} b) (x p)))
+      go (stop question place) y = absurd y
+
+-- a part of a run that gave a cell, and what follows it
+pub bind-assoc : {A B C : Type 0} (m : Ran A) (f : A → Ran B) (g : B → Ran C) → ((m >>= f) >>= g) ≡ (m >>= λ a. f a >>= g)
+bind-assoc (ok a) f g = refl
+bind-assoc (stop question place) f g = refl
+
+cell-no : (m : Ran ℕ) (f : ℕ → Ran ℕ) (at next k : ℕ) → CellIs m at (cell.No k) → CellIs (m >>= f) next (cell.No k)
+cell-no (ok c) f at next k h = absurd h
+cell-no (stop question place) f at next k h = h
+
+cell-is : (m : Ran ℕ) (f : ℕ → Ran ℕ) (at next c to : ℕ) (a : Cell) → CellIs m at (cell.Is c to) → (to ≡ at → CellIs (f c) next a) → CellIs (m >>= f) next a
+cell-is (ok d) f at next c to a h g = subst (λ (d : ℕ). CellIs (f d) next a) (h .0) (g (h .1))
+cell-is (stop question place) f at next c to a h g = absurd h
+
+module _ (s : List ℕ) (loops : ℕ) (is : List ℤ) where
+  pub cells-end : (at n : ℕ) (es : List ℕ) → length es ≡ 0 → CellsFrom s at loops is n es (cell.Is n at)
+  unfolding CellsFrom cellFrom times
+  cells-end at n [] h fs next p g l i = (refl, cc)
+  cells-end at n (e ∷ es) h fs next p g l i = absurd (omega arith)
+
+  cells-no : (at n e : ℕ) (es : List ℕ) (k : ℕ) → Subscript s at loops is e (cell.No k) → CellsFrom s at loops is n (e ∷ es) (cell.No k)
+  unfolding CellsFrom cellFrom times Subscript
+  cells-no at n e es k h fs next p g l i =
+      read-by (form loops s at) _ g λ f at1 e1 r1.
+      read-by (times [] _∷_ (form loops) (length es) s at1) _ r1 λ gs at2 e2 r2.
+      got-is (λ fs. CellIs (cellFrom p (take loops is) n (e ∷ es) fs) next (cell.No k)) r2
+      (subst (λ (m : Ran ℕ). CellIs m next (cell.No k)) (bind-assoc (worked p (take loops is) f) (inExtent p e) (λ v. cellFrom p (take loops is) (n * e + v) es gs))
+      (cell-no (worked p (take loops is) f >>= inExtent p e) (λ v. cellFrom p (take loops is) (n * e + v) es gs) at1 next k (h f at1 p e1 l i)))
+
+  cells-step : (at n e : ℕ) (es : List ℕ) (c to : ℕ) (a : Cell) → Subscript s at loops is e (cell.Is c to) → CellsFrom s to loops is (n * e + c) es a → CellsFrom s at loops is n (e ∷ es) a
+  unfolding CellsFrom cellFrom times Subscript
+  cells-step at n e es c to a h w fs next p g l i =
+      read-by (form loops s at) _ g λ f at1 e1 r1.
+      read-by (times [] _∷_ (form loops) (length es) s at1) _ r1 λ gs at2 e2 r2.
+      let z : at2 ≡ next = cc in
+      got-is (λ fs. CellIs (cellFrom p (take loops is) n (e ∷ es) fs) next a) r2
+      (subst (λ (m : Ran ℕ). CellIs m next a) (bind-assoc (worked p (take loops is) f) (inExtent p e) (λ v. cellFrom p (take loops is) (n * e + v) es gs))
+      (cell-is (worked p (take loops is) f >>= inExtent p e) (λ v. cellFrom p (take loops is) (n * e + v) es gs) at1 next c to a (h f at1 p e1 l i)
+      (λ q. w gs next p (ap (λ (x : ℕ). times [] _∷_ (form loops) (length es) s x) q ∙ e2 ∙ ap (λ (x : ℕ). got gs x) z) l i)))
+
+  module _ (es : List ℕ) (k : ℕ) (h : k < length es) where
+    opened : drop k es ≡ getD es k 0 ∷ drop (k + 1) es
+    opened = rw (add-one, drop-cons es k 0 h)
+
+    pub loop-no : (at n e number : ℕ) (r : Cell) → e ≡ getD es k 0 → Subscript s at loops is e r → r ≡ cell.No number → CellsFrom s at loops is n (drop k es) (cell.No number)
+    loop-no at n e number r q x y = rw (opened, ← q) (cells-no at n e (drop (k + 1) es) number (rw y at x))
+
+    pub loop-is : (at n e c to : ℕ) (r a : Cell) → e ≡ getD es k 0 → Subscript s at loops is e r → r ≡ cell.Is c to → CellsFrom s to loops is (n * e + c) (drop (k + 1) es) a → CellsFrom s at loops is n (drop k es) a
+    loop-is at n e c to r a q x y w = rw (opened, ← q) (cells-step at n e (drop (k + 1) es) c to a (rw y at x) w)
+
+  pub loop-end : (es : List ℕ) (k at n : ℕ) → length es ≤ k → CellsFrom s at loops is n (drop k es) (cell.Is n at)
+  loop-end es k at n h = cells-end at n (drop k es) (let l = length-drop k es in omega arith)
+
+pub below-is : (e c to : ℕ) (r : Cell) → Below e r → r ≡ cell.Is c to → c < e
+below-is e c to r h q = rw q at h
+
+-- what k subscripts make stays below 2^48
+abbrev pub most : ℕ → ℕ
+most zero = 1
+most (suc k) = most k * 65536
+
+pub grows : (k n e c : ℕ) → n < most k → e < 65536 → c < e → n * e + c < most (k + 1)
+grows k n e c h g l =
+    rw add-one
+    (let a : (n + 1) * e ≤ most k * 65536 = mul-le-mul (omega arith) (omega arith) in
+    let b = add-mul n 1 e in
+    omega arith)
+
+pub cell-fits : (k n e c : ℕ) → k < 3 → n < most k → e < 65536 → c < e → n * e + c < 281474976710656
+cell-fits k n e c h l g m = go k h (grows k n e c l g m)
+  where
+    go : (k : ℕ) → k < 3 → n * e + c < most (k + 1) → n * e + c < 281474976710656
+    go zero h q = omega arith
+    go (suc zero) h q = omega arith
+    go (suc (suc zero)) h q = omega arith
+    go (suc (suc (suc k))) h q = absurd (omega arith)
+
+-- extents of packed tables
+module _ (t : Packed) (a : ℕ) where
+  pub dimensions-few : length (arrayAt (unpacked t .arrays) a .extents) ≤ 3
+  dimensions-few = go (ltb a (min (t .arrays) 16)) refl
+    where
+      go : (b : Bool) → ltb a (min (t .arrays) 16) ≡ b → length (arrayAt (unpacked t .arrays) a .extents) ≤ 3
+      go true e = let h = dimensions-in t a (ltb-true a (min (t .arrays) 16) e) in omega arith
+      go false e = let h = dimensions-out t a (ltb-false a (min (t .arrays) 16) e) in omega arith
+
+  module _ (k : ℕ) where
+    pub extent-room : a < length (unpacked t .arrays) → k < length (arrayAt (unpacked t .arrays) a .extents) → 3 * a + k < 48
+    extent-room h g = let m = arrays-are t in let n = dimensions-few in omega arith
+
+    pub extent-in : a < length (unpacked t .arrays) → k < length (arrayAt (unpacked t .arrays) a .extents) → getD (t .extents) (3 * a + k) 0 ≡ getD (arrayAt (unpacked t .arrays) a .extents) k 0
+    unfolding arrayOf
+    extent-in h g =
+        let m = arrays-are t in
+        let w : a < min (t .arrays) 16 = omega arith in
+        let d = dimensions-in t a w in
+        sym (ap (λ (x : Array). getD (x .extents) k 0) (array-in t a w) ∙ getD-cut (min (getD (t .dimensions) a 0) 3) (3 * a) (t .extents) k (omega arith))
+
+    pub extent-out : length (arrayAt (unpacked t .arrays) a .extents) ≤ k → 0 ≡ getD (arrayAt (unpacked t .arrays) a .extents) k 0
+    extent-out h = sym (List·getD-eq-default (arrayAt (unpacked t .arrays) a .extents) 0 h)
+
+    pub extent-none : length (unpacked t .arrays) ≤ a → 0 ≡ getD (arrayAt (unpacked t .arrays) a .extents) k 0
+    extent-none h = let m = arrays-are t in sym (ap (λ (x : Array). getD (x .extents) k 0) (array-out t a (omega arith)) ∙ go k)
+      where
+        go : (k : ℕ) → _≡_ {A = ℕ} (getD (0 ∷ []) k 0) 0
+        go zero = refl
+        go (suc k) = refl

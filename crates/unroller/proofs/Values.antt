@@ -1,0 +1,130 @@
+-- Forms worked out over arrays of eight numbers have the values that the definition gives them.
+use mathlib.Core.Path.{_≡_, refl, sym, ap, ap₂, _∙_, subst}
+use Prim.Native.Nat.{ℕ, zero, suc, _+_, _-_, _≤_, _<_, min}
+use native.Mathlib.Omega.{arith}
+use mathlib.Core.List.{List, [], _∷_, _++_}
+use mathlib.Core.Bool.{Bool, true, false, _&&_, false≢true}
+use lib.ListN.{length, getD, take, replicate, length-append, length-replicate, length-take}
+use lib.Seq.{take-suc}
+use lib.Dec.{leb}
+use lib.IntN.{ℤ, pos, negsuc, _+ℤ_, _*ℤ_, +ℤ-assoc, +ℤ-idl, +ℤ-idr}
+use lib.Signed.{leZ, ltZ}
+use mir.Syntax.{w64}
+use mir.Val.{toZ, ofZ, SFits}
+use mir.Facts.{toZ-ofZ}
+use borrow.Author.Tests.{le-leb, lt-leb, ltb-true, ltb-false}
+use Rattle.model.specs.Test.{if_then_else_}
+use Rattle.reader.specs.Field.{Outcome, got, no}
+use Rattle.reader.specs.Syntax.{Form}
+use Rattle.reader.specs.Grammar.{form}
+use Rattle.reader.specs.Answers.{placed}
+use Rattle.reader.specs.Entries.{formStep, FormIs, formSays, coefficientsIn}
+use Rattle.reader.specs.declared.fields.Place.{Place}
+use Rattle.reader.specs.declared.fields.Place.the-variants.{Next, Not}
+use Rattle.reader.specs.declared.forms.FormRead.{FormRead}
+use Rattle.unroller.specs.Run.{Ran, ok, stop, products, valueAt, fits32, worked}
+use Rattle.unroller.specs.Forms.{formSum, ValueIs, Values}
+use Rattle.unroller.specs.declared.forms.Valued.{Valued}
+use Rattle.unroller.specs.declared.forms.Valued.the-variants.{Is, No}
+
+products-snoc : (xs ys : List ℤ) (c i : ℤ) → length xs ≡ length ys → products (xs ++ (c ∷ [])) (ys ++ (i ∷ [])) ≡ products xs ys +ℤ (c *ℤ i)
+products-snoc [] [] c i e = +ℤ-idr (c *ℤ i) ∙ sym (+ℤ-idl (c *ℤ i))
+products-snoc [] (y ∷ ys) c i e = absurd (omega arith)
+products-snoc (x ∷ xs) [] c i e = absurd (omega arith)
+products-snoc (x ∷ xs) (y ∷ ys) c i e = ap (λ (z : ℤ). (x *ℤ y) +ℤ z) (products-snoc xs ys c i (omega arith)) ∙ sym (+ℤ-assoc (x *ℤ y) (products xs ys) (c *ℤ i))
+
+pub sum-products : (z : ℤ) (cs is : List ℤ) (n : ℕ) → n ≤ length cs → n ≤ length is → formSum z cs is n ≡ z +ℤ products (take n cs) (take n is)
+unfolding formSum
+sum-products z cs is zero h k = sym (+ℤ-idr z)
+sum-products z cs is (suc n) h k =
+    let a = length-take n cs in
+    let b = length-take n is in
+    let c = getD cs n (pos 0) in
+    let i = getD is n (pos 0) in
+    ap (λ (w : ℤ). w +ℤ (c *ℤ i)) (sum-products z cs is n (omega arith) (omega arith))
+    ∙ +ℤ-assoc z (products (take n cs) (take n is)) (c *ℤ i)
+    ∙ ap (λ (w : ℤ). z +ℤ w) (sym (products-snoc (take n cs) (take n is) c i (omega arith)))
+    ∙ ap₂ (λ (xs ys : List ℤ). z +ℤ products xs ys) (sym (take-suc cs n (pos 0) (omega arith))) (sym (take-suc is n (pos 0) (omega arith)))
+
+module _ (s : List ℕ) (at loops : ℕ) (is : List ℤ) (r : FormRead) (i : FormIs loops (formStep loops s at) r) where
+  -- the step is the form, where there are at most 8 loops
+  stepped : (f : Form) (next : ℕ) → form loops s at ≡ got f next → loops ≤ 8 → formStep loops s at ≡ got f next
+  unfolding formStep
+  stepped f next e h = rw (le-leb loops 8 h) e
+
+  says : (f : Form) (next : ℕ) → form loops s at ≡ got f next → loops ≤ 8 → formSays loops r ≡ got f next
+  says f next e h = i .says ∙ stepped f next e h
+
+  placed-not : {A : Type 0} (p : Place) (a b : A) (number place next : ℕ) → p ≡ Not number place → placed p a ≡ got b next → ⊥
+  placed-not {A} p a b number place next e q = let g : _≡_ {A = Outcome A} (no number place) (got b next) = sym (ap (λ (p : Place). placed p a) e) ∙ q in let z : _≡_ {A = ℕ} 0 1 = cc in omega arith
+
+  pub value-refused : (number place : ℕ) → r .answer ≡ Not number place → Values s at loops is (No number)
+  unfolding Values
+  value-refused number place e f next p q h l = absurd (placed-not (r .answer) _ f number place next e (says f next q h))
+
+  module _ (to : ℕ) (e : r .answer ≡ Next to) (v : ℤ) (w : v ≡ formSum (r .constant) (r .coefficients) is (min loops 8)) where
+    record Formed (f : Form) (next : ℕ) : Type 0 where
+      place : to ≡ next
+      value : v ≡ valueAt f (take loops is)
+
+    formed : (f : Form) (next : ℕ) → form loops s at ≡ got f next → loops ≤ 8 → length is ≡ 8 → Formed f next
+    formed f next q h l =
+        let g : _≡_ {A = Outcome Form} (got (record { constant = r .constant; coefficients = take loops (r .coefficients) }) to) (got f next) = sym (ap (λ (p : Place). placed p (record { constant = r .constant; coefficients = take loops (r .coefficients) })) e) ∙ says f next q h in
+        let x : _≡_ {A = Form} (record { constant = r .constant; coefficients = take loops (r .coefficients) }) f = cc in
+        let m : min loops 8 ≡ loops = omega arith in
+        let long : 8 ≤ length (r .coefficients) = long-enough f next q h in
+        record {
+          place = cc;
+          value = w ∙ ap (formSum (r .constant) (r .coefficients) is) m ∙ sum-products (r .constant) (r .coefficients) is loops (omega arith) (omega arith) ∙ ap (λ (f : Form). valueAt f (take loops is)) x;
+        }
+      where
+        long-enough : (f : Form) (next : ℕ) → form loops s at ≡ got f next → loops ≤ 8 → 8 ≤ length (r .coefficients)
+        long-enough f next q h =
+            let c = ap length (i .coefficients ∙ ap coefficientsIn (stepped f next q h)) in
+            let a = length-append (f .coefficients) (replicate (8 - length (f .coefficients)) (pos 0)) in
+            let b : length {A = ℤ} (replicate (8 - length (f .coefficients)) (pos 0)) ≡ 8 - length (f .coefficients) = length-replicate (8 - length (f .coefficients)) (pos 0) in
+            omega arith
+
+    worked-ok : (f : Form) (next p : ℕ) → Formed f next → fits32 v ≡ true → ValueIs (worked p (take loops is) f) next (Is v to)
+    unfolding worked
+    worked-ok f next p g t =
+        let y : fits32 (valueAt f (take loops is)) ≡ true = subst (λ (v : ℤ). fits32 v ≡ true) (g .value) t in
+        rw y (g .value, g .place)
+
+    worked-wide : (f : Form) (next p : ℕ) → Formed f next → fits32 v ≡ false → ValueIs (worked p (take loops is) f) next (No 21)
+    unfolding worked
+    worked-wide f next p g t =
+        let y : fits32 (valueAt f (take loops is)) ≡ false = subst (λ (v : ℤ). fits32 v ≡ false) (g .value) t in
+        rw y refl
+
+    -- the value as its bits are read back
+    pub value-fits : SFits w64 v → fits32 v ≡ true → Values s at loops is (Is (toZ w64 (ofZ w64 v)) to)
+    unfolding Values
+    value-fits b t f next p q h l = rw (toZ-ofZ {w = w64} {z = v} b) (worked-ok f next p (formed f next q h l) t)
+
+    pub value-wide : fits32 v ≡ false → Values s at loops is (No 21)
+    unfolding Values
+    value-wide t f next p q h l = worked-wide f next p (formed f next q h l) t
+
+-- the code's two tests of 32 signed bits, on a number read back from its bits
+module _ (v : ℤ) (f : SFits w64 v) where
+  pub below : ltZ (toZ w64 (ofZ w64 v)) (negsuc 2147483647) ≡ true → fits32 v ≡ false
+  below e = go v (rw (toZ-ofZ {w = w64} {z = v} f) at e)
+    where
+      go : (v : ℤ) → ltZ v (negsuc 2147483647) ≡ true → fits32 v ≡ false
+      go (pos n) e = absurd (false≢true e)
+      go (negsuc n) e = let h = ltb-true 2147483647 n e in rw (lt-leb n 2147483647 h)
+
+  pub above : ltZ (pos 2147483647) (toZ w64 (ofZ w64 v)) ≡ true → fits32 v ≡ false
+  above e = go v (rw (toZ-ofZ {w = w64} {z = v} f) at e)
+    where
+      go : (v : ℤ) → ltZ (pos 2147483647) v ≡ true → fits32 v ≡ false
+      go (pos n) e = let h = ltb-true 2147483647 n e in lt-leb n 2147483647 h
+      go (negsuc n) e = absurd (false≢true e)
+
+  pub between : ltZ (toZ w64 (ofZ w64 v)) (negsuc 2147483647) ≡ false → ltZ (pos 2147483647) (toZ w64 (ofZ w64 v)) ≡ false → fits32 v ≡ true
+  between e g = go v (rw (toZ-ofZ {w = w64} {z = v} f) at e) (rw (toZ-ofZ {w = w64} {z = v} f) at g)
+    where
+      go : (v : ℤ) → ltZ v (negsuc 2147483647) ≡ false → ltZ (pos 2147483647) v ≡ false → fits32 v ≡ true
+      go (pos n) e g = let h = ltb-false 2147483647 n g in le-leb n 2147483647 h
+      go (negsuc n) e g = let h = ltb-false 2147483647 n e in rw (le-leb n 2147483647 h)

@@ -1,0 +1,46 @@
+-- `header` meets its contract.
+use borrow.Author.Needs.{needs}
+use native.Mathlib.Omega.{arith}
+use mathlib.Core.Path.{_≡_, refl, sym, ap, _∙_}
+use Prim.Native.Nat.{ℕ, _+_, _-_, _*_, _≤_, _<_}
+use mathlib.Core.List.{List}
+use lib.ListN.{length, getD, set, length-set}
+use lib.Seq.{sets}
+use Rattle.unroller.specs.UnrollAnswers.{rows}
+use Rattle.reader.proofs.Packing.{operators-are, arrays-are}
+use Rattle.unroller.proofs.HeaderWords.{row-put, head-put, Zeroed, zeroed-none, zeroed-more, zeroed-all, Arities, arities-none, arities-more, arities-all, Rows, rows-first, rows-again, rows-done}
+use Rattle.unroller.proofs.header.header.Statement.{statement}
+use Rattle.unroller.proofs.header.header.Tie as tie
+
+operator-count-requires : tie.Need-operator-count-requires
+operator-count-requires c κs = search needs
+
+cast-list : tie.Need-cast-list
+cast-list c = record { fits = omega (arith, c .operator-count .ensures, operators-are (c .before .before .before .before .before .before .args .tables)) }
+
+slice-write-list : tie.Need-slice-write-list
+slice-write-list c = omega arith
+
+put-arities-requires : tie.Need-put-arities-requires
+put-arities-requires c κs = simp length-set (omega arith)
+
+array-count-requires : tie.Need-array-count-requires
+array-count-requires c κs = search needs
+
+cast-list-2 : tie.Need-cast-list-2
+cast-list-2 c = record { fits = omega (arith, c .array-count .ensures, arrays-are (c .before .before .before .before .before .before .before .before .before .before .before .args .tables)) }
+
+slice-write-list-2 : tie.Need-slice-write-list-2
+slice-write-list-2 c = let X : List ℕ = c .before .before .before .put-arities .last .1 .0 in let k : length X ≡ length (c .before .before .before .before .before .before .before .before .before .before .before .args .list .now) = c .before .before .before .put-arities .kept .1 .0 ∙ length-set (c .before .before .before .before .before .before .before .before .before .before .before .args .list .now) 0 (c .before .before .before .before .before .operator-count .result) in omega arith
+
+put-rows-requires : tie.Need-put-rows-requires
+put-rows-requires c κs = let X : List ℕ = c .before .before .before .before .put-arities .last .1 .0 in let k : length X ≡ length (c .before .before .before .before .before .before .before .before .before .before .before .before .args .list .now) = c .before .before .before .before .put-arities .kept .1 .0 ∙ length-set (c .before .before .before .before .before .before .before .before .before .before .before .before .args .list .now) 0 (c .before .before .before .before .before .before .operator-count .result) in let m : length (set X 17 (c .before .array-count .result)) ≡ length (c .before .before .before .before .before .before .before .before .before .before .before .before .args .list .now) = length-set X 17 (c .before .array-count .result) ∙ k in omega arith
+
+same-length : tie.Need-same-length
+same-length c = let X : List ℕ = c .before .before .before .before .before .before .before .put-arities .last .1 .0 in let k : length X ≡ length (c .before .before .before .before .before .before .before .before .before .before .before .before .before .before .before .args .list .now) = c .before .before .before .before .before .before .before .put-arities .kept .1 .0 ∙ length-set (c .before .before .before .before .before .before .before .before .before .before .before .before .before .before .before .args .list .now) 0 (c .before .before .before .before .before .before .before .before .before .operator-count .result) in c .before .before .put-rows .kept .1 .1 .1 .0 ∙ length-set X 17 (c .before .before .before .before .array-count .result) ∙ k
+
+returns : tie.Need-returns
+returns c = let a = c .before .before .before .before .before .before .before .before .before .before .before .before .before .before .before .args in let t = a .tables in c .before .before .put-rows .ensures ∙ ap (λ (l : List ℕ). sets (set l 17 (c .before .before .before .before .array-count .result)) 18 (rows 16 0 (t .roles) (t .dimensions) (t .extents))) (c .before .before .before .before .before .before .before .put-arities .ensures) ∙ head-put (a .list .now) t (c .before .before .before .before .before .before .before .before .before .operator-count .result) (c .before .before .before .before .array-count .result) (c .before .before .before .before .before .before .before .before .before .operator-count .ensures) (c .before .before .before .before .array-count .ensures)
+
+pub header-spec : {M : Type 1} → statement M
+header-spec = tie.close (tie.spec operator-count-requires cast-list slice-write-list put-arities-requires array-count-requires cast-list-2 slice-write-list-2 put-rows-requires same-length returns)

@@ -1,0 +1,81 @@
+use borrow.Author.Needs.{needs, sfits-of}
+use native.Mathlib.Omega.{arith}
+use mathlib.Core.Path.{_≡_, refl, sym, ap, _∙_, subst}
+use Prim.Native.Nat.{ℕ, zero, suc, _+_, _-_, _*_, _≤_, _<_}
+use mathlib.Core.List.{List, [], _∷_, _++_}
+use mathlib.Core.Bool.{Bool, true, false}
+use lib.ListN.{length, getD, take, drop, set, length-set}
+use borrow.Author.Tests.{ltb-true, ltb-false, lt-ltb, le-ltb, le-leb, lt-leb, eq-eqb, ne-eqb, eqb-true, eqb-false, not-true, not-false}
+use Rattle.unroller.proofs.Cells.{loop-no, loop-is, loop-end, below-is, most, grows, cell-fits, dimensions-few}
+use Rattle.model.specs.Tables.{arrayAt}
+use Rattle.reader.specs.Entries.{unpacked}
+use Rattle.unroller.specs.Writes.{CellsFrom}
+use Rattle.unroller.specs.declared.statement.Cell.{Cell}
+use Rattle.unroller.proofs.statement.cell_at.Statement.{statement}
+use Rattle.unroller.proofs.statement.cell_at.Tie as tie
+
+abbrev Inv-loop : tie.InvT-loop
+Inv-loop program at tables loops indices array dimensions cell₀ next₀ k₀ cell next k =
+    (k ≤ dimensions) × (cell < most k) × ((r : Cell) → CellsFrom program next loops indices cell (drop k (arrayAt (unpacked tables .arrays) array .extents)) r → CellsFrom program at loops indices 0 (arrayAt (unpacked tables .arrays) array .extents) r)
+
+abbrev μ-loop : tie.MeasureT-loop
+μ-loop program at tables loops indices array dimensions cell₀ next₀ k₀ cell next k = dimensions - k
+
+dimensions-of-requires : tie.Need-dimensions-of-requires Inv-loop μ-loop
+dimensions-of-requires c κs = search needs
+
+loop-holds : tie.Need-loop-holds Inv-loop μ-loop
+loop-holds c = (omega arith, omega arith, λ r z. z)
+
+extent-of-requires : tie.Need-extent-of-requires Inv-loop μ-loop
+extent-of-requires c κs = search needs
+
+subscript-at-requires : tie.Need-subscript-at-requires Inv-loop μ-loop
+subscript-at-requires c κs = search needs
+
+enum-known-number : tie.Need-enum-known-number Inv-loop μ-loop
+enum-known-number c = search needs
+
+returns : tie.Need-returns Inv-loop μ-loop
+returns c = let a = c .before .before .before .before .before .before .before .before .before .args in let l = c .before .before .before .before .before .before .loop in l .inv .2 _ (loop-no _ _ _ (arrayAt (unpacked (a .tables) .arrays) (a .array) .extents) (l .k) (omega arith) (l .next) (l .cell) (c .before .before .before .before .extent-of .result) _ (c .before .before .before .subscript-at .result) (c .before .before .before .before .extent-of .ensures .0) (c .before .before .before .subscript-at .ensures .0) (c .before .number .given .1))
+
+enum-known-v : tie.Need-enum-known-v Inv-loop μ-loop
+enum-known-v c = search needs
+
+mul-cell : tie.Need-mul-cell Inv-loop μ-loop
+mul-cell c = let a = c .before .before .before .before .before .before .before .before .before .args in let l = c .before .before .before .before .before .before .loop in let d = dimensions-few (a .tables) (a .array) in let b = below-is _ _ _ (c .before .before .before .subscript-at .result) (c .before .before .before .subscript-at .ensures .1) (c .before .v .given .1) in let f = cell-fits (l .k) (l .cell) (c .before .before .before .before .extent-of .result) (c .before .v .given .0 .0) (omega arith) (l .inv .1) (c .before .before .before .before .extent-of .ensures .1) b in omega arith
+
+add-cell : tie.Need-add-cell Inv-loop μ-loop
+add-cell c = let a = c .before .before .before .before .before .before .before .before .before .args in let l = c .before .before .before .before .before .before .loop in let d = dimensions-few (a .tables) (a .array) in let b = below-is _ _ _ (c .before .before .before .subscript-at .result) (c .before .before .before .subscript-at .ensures .1) (c .before .v .given .1) in let f = cell-fits (l .k) (l .cell) (c .before .before .before .before .extent-of .result) (c .before .v .given .0 .0) (omega arith) (l .inv .1) (c .before .before .before .before .extent-of .ensures .1) b in omega arith
+
+add-k : tie.Need-add-k Inv-loop μ-loop
+add-k c = omega arith
+
+loop-less : tie.Need-loop-less Inv-loop μ-loop
+loop-less c = omega arith
+
+loop-again : tie.Need-loop-again Inv-loop μ-loop
+loop-again c = let a = c .before .before .before .before .before .before .before .before .before .args in let l = c .before .before .before .before .before .before .loop in let b = below-is _ _ _ (c .before .before .before .subscript-at .result) (c .before .before .before .subscript-at .ensures .1) (c .before .v .given .1) in (omega arith, grows (l .k) (l .cell) (c .before .before .before .before .extent-of .result) (c .before .v .given .0 .0) (l .inv .1) (c .before .before .before .before .extent-of .ensures .1) b, λ r z. l .inv .2 r (loop-is _ _ _ (arrayAt (unpacked (a .tables) .arrays) (a .array) .extents) (l .k) (omega arith) (l .next) (l .cell) (c .before .before .before .before .extent-of .result) _ _ (c .before .before .before .subscript-at .result) r (c .before .before .before .before .extent-of .ensures .0) (c .before .before .before .subscript-at .ensures .0) (c .before .v .given .1) z))
+
+returns-2 : tie.Need-returns-2 Inv-loop μ-loop
+returns-2 c = let a = c .before .before .before .before .args in let l = c .before .loop in l .inv .2 _ (loop-end _ _ _ (arrayAt (unpacked (a .tables) .arrays) (a .array) .extents) (l .k) (l .next) (l .cell) (omega arith))
+
+pub cell-at-spec : {M : Type 1} → statement M
+cell-at-spec =
+    tie.close
+    (tie.spec
+    Inv-loop
+    μ-loop
+    dimensions-of-requires
+    loop-holds
+    extent-of-requires
+    subscript-at-requires
+    enum-known-number
+    returns
+    enum-known-v
+    mul-cell
+    add-cell
+    add-k
+    loop-less
+    loop-again
+    returns-2)

@@ -1,0 +1,89 @@
+// The header of an update list (docs/LAYOUT.md), written into a cleared list.
+ghost use mathlib.Core.Path.{_≡_};
+ghost use mathlib.Core.List.{[], _∷_};
+ghost use Prim.Native.Nat.{_+_, _≤_};
+ghost use lib.ListN.{length};
+ghost use lib.Seq.{sets};
+ghost use Rattle.model.specs.Memory.{cleared};
+ghost use Rattle.reader.specs.Entries.{cut};
+ghost use Rattle.unroller.specs.UnrollAnswers.{rows, headWords};
+use reader::tables::Tables;
+use reader::tables::array_count;
+use reader::tables::operator_count;
+
+fn word_of_byte(x: u8) -> u32
+    ensures { λ r. ⌜ r ≡ x ⌝ }
+{
+    x as u32
+}
+
+fn word_of_extent(x: u16) -> u32
+    ensures { λ r. ⌜ r ≡ x ⌝ }
+{
+    x as u32
+}
+
+pub(crate) fn clear(list: &mut [u32])
+    ensures { λ _. ⌜ now (list .exit) ≡ cleared (now (list .entry)) ⌝ }
+{
+    let n = list.len();
+    let mut i: usize = 0;
+    while i < n {
+        list[i] = 0;
+        i += 1;
+    }
+}
+
+fn put_arities(arities: [u8; 16], list: &mut [u32])
+    requires { ⌜ 98 ≤ length (now list) ⌝ }
+    ensures { λ _. ⌜ now (list .exit) ≡ sets (now (list .entry)) 1 (cut 16 0 arities) ⌝ }
+{
+    let mut k: usize = 0;
+    while k < 16 {
+        list[1 + k] = word_of_byte(arities[k]);
+        k += 1;
+    }
+}
+
+// The five words of an array.
+fn put_row(list: &mut [u32], at: usize, role: u32, dimensions: u32, a: u32, b: u32, c: u32)
+    requires { ⌜ at + 5 ≤ length (now list) ⌝ }
+    ensures { λ _. ⌜ now (list .exit) ≡ sets (now (list .entry)) at (role ∷ dimensions ∷ a ∷ b ∷ c ∷ []) ⌝ }
+{
+    list[at] = role;
+    list[at + 1] = dimensions;
+    list[at + 2] = a;
+    list[at + 3] = b;
+    list[at + 4] = c;
+}
+
+fn put_rows(roles: [u8; 16], dimensions: [u8; 16], extents: [u16; 48], list: &mut [u32])
+    requires { ⌜ 98 ≤ length (now list) ⌝ }
+    ensures { λ _. ⌜ now (list .exit) ≡ sets (now (list .entry)) 18 (rows 16 0 roles dimensions extents) ⌝ }
+{
+    let mut k: usize = 0;
+    while k < 16 {
+        let role = word_of_byte(roles[k]);
+        let dimension = word_of_byte(dimensions[k]);
+        let a = word_of_extent(extents[3 * k]);
+        let b = word_of_extent(extents[3 * k + 1]);
+        let c = word_of_extent(extents[3 * k + 2]);
+        put_row(list, 18 + 5 * k, role, dimension, a, b, c);
+        k += 1;
+    }
+}
+
+// Both counts are at most 16, so they are words.
+pub(crate) fn header(tables: Tables, list: &mut [u32])
+    requires { ⌜ 98 ≤ length (now list) ⌝ }
+    ensures { λ _. ⌜ now (list .exit) ≡ sets (now (list .entry)) 0 (headWords «tables») ⌝ }
+{
+    let arities = tables.arities;
+    let roles = tables.roles;
+    let dimensions = tables.dimensions;
+    let extents = tables.extents;
+    list[0] = operator_count(tables) as u32;
+    put_arities(arities, list);
+    list[17] = array_count(tables) as u32;
+    put_rows(roles, dimensions, extents, list);
+}

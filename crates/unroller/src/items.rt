@@ -1,0 +1,353 @@
+// Walks the items of a file that was read without a "no": loops and guards here, statements by `statement`. The grammar rules out
+// what the walk would refuse by its questions; they are asked all the same, so that no function leans on the bytes.
+ghost use mathlib.Core.Path.{_≡_};
+ghost use Prim.Native.Nat.{_+_, _≤_, _<_};
+ghost use lib.ListN.{length};
+ghost use lib.IntN.{pos};
+ghost use Rattle.reader.specs.Entries.{unpacked};
+ghost use Rattle.unroller.specs.Run.{fits16};
+ghost use Rattle.unroller.specs.Walk.{RunsItem, RunsItems};
+ghost use Rattle.unroller.specs.WalkItems.{Steps, Ranges, Moves, Passes, RunsNested, RunsRound, RunsRounds};
+use crate::forms::Valued;
+use crate::forms::goes_on;
+use crate::forms::value_at;
+use crate::statement::statement;
+use crate::walk::Progress;
+use crate::walk::Walk;
+use reader::fields::Place;
+use reader::fields::Signed;
+use reader::fields::step_at;
+use reader::items::items_end;
+use reader::tables::Tables;
+
+// A loop's start, end and step, and the place of its body; or a question's number.
+enum Range {
+    Over(i16, i16, i16, usize),
+    No(u8),
+}
+
+fn fits_16(v: i64) -> bool
+    ensures { λ r. ⌜ r ≡ fits16 v ⌝ }
+{
+    if v < -32768 {
+        return false;
+    }
+    v <= 32767
+}
+
+// Do both ends lie in 16 signed bits? 15. The step is at `at`.
+fn stepped(program: &[u8], at: usize, first: i64, last: i64) -> Range
+    ensures steps { λ r. ⌜ Steps (now (program .entry)) at first last r ⌝ }
+    ensures moves { λ r. ⌜ Moves r ⌝ }
+{
+    match step_at(program, at) {
+        Signed::Not(number, _) => Range::No(number),
+        Signed::Is(step, body) => {
+            if !fits_16(first) {
+                return Range::No(15);
+            }
+            if !fits_16(last) {
+                return Range::No(15);
+            }
+            Range::Over(first as i16, last as i16, step, body)
+        }
+    }
+}
+
+// Start and end are both worked out before 15 is asked.
+fn range_at(program: &[u8], at: usize, loops: usize, indices: [i16; 8]) -> Range
+    ensures ranges { λ r. ⌜ Ranges (now (program .entry)) at loops indices r ⌝ }
+    ensures moves { λ r. ⌜ Moves r ⌝ }
+{
+    match value_at(program, at, loops, indices) {
+        Valued::No(number) => Range::No(number),
+        Valued::Is(first, middle) => match value_at(program, middle, loops, indices) {
+            Valued::No(number) => Range::No(number),
+            Valued::Is(last, step) => stepped(program, step, first, last),
+        },
+    }
+}
+
+// The end of items that do not run.
+fn passed(
+    program: &[u8],
+    at: usize,
+    tables: Tables,
+    left: usize,
+    loops: usize,
+    progress: Progress,
+) -> Walk
+    ensures { λ r. ⌜ Passes (now (program .entry)) at (unpacked «tables») left loops progress r ⌝ }
+{
+    match items_end(program, at, tables, left, loops) {
+        Place::Not(number, place) => Walk::No(number, place),
+        Place::Next(next) => Walk::On(next, progress),
+    }
+}
+
+// The items from `start` on, inside so many loops, where loops and guards may still nest `left` deep.
+pub(crate) fn items(
+    program: &[u8],
+    start: usize,
+    tables: Tables,
+    left: usize,
+    loops: usize,
+    indices: [i16; 8],
+    progress: Progress,
+    flags: &mut [u8; 2048],
+    list: &mut [u32],
+) -> Walk
+    requires { ⌜ loops + left ≤ 8 ⌝ }
+    ensures { λ r. ⌜ RunsItems (now (program .entry)) start (unpacked «tables») («tables» .bases) left loops indices progress (now (list .entry)) (now (flags .entry)) r (now (list .exit)) (now (flags .exit)) ⌝ }
+{
+    let mut place = start;
+    let mut done = progress;
+    while place < program.len() {
+        let code = program[place];
+        if code == 0 {
+            return Walk::On(place + 1, done);
+        }
+        match item(
+            program,
+            place,
+            code,
+            tables,
+            left,
+            loops,
+            indices,
+            done,
+            flags,
+            list,
+        ) {
+            Walk::No(number, at) => {
+                return Walk::No(number, at);
+            }
+            Walk::On(next, more) => {
+                // An item takes a byte at least.
+                if next <= place {
+                    return Walk::No(3, place);
+                }
+                place = next;
+                done = more;
+            }
+        }
+    }
+    Walk::No(3, place)
+}
+
+// The item whose code stands at `at`.
+fn item(
+    program: &[u8],
+    at: usize,
+    code: u8,
+    tables: Tables,
+    left: usize,
+    loops: usize,
+    indices: [i16; 8],
+    progress: Progress,
+    flags: &mut [u8; 2048],
+    list: &mut [u32],
+) -> Walk
+    requires { ⌜ (loops + left ≤ 8) × (at < length (now program)) ⌝ }
+    ensures { λ r. ⌜ RunsItem (now (program .entry)) at code (unpacked «tables») («tables» .bases) left loops indices progress (now (list .entry)) (now (flags .entry)) r (now (list .exit)) (now (flags .exit)) ⌝ }
+{
+    match code {
+        1 => statement(program, at, tables, loops, indices, progress, flags, list),
+        2 => run_loop(
+            program,
+            at,
+            tables,
+            left,
+            loops,
+            indices,
+            progress,
+            flags,
+            list,
+        ),
+        3 => run_guard(
+            program,
+            at,
+            tables,
+            left,
+            loops,
+            indices,
+            progress,
+            flags,
+            list,
+        ),
+        _ => Walk::No(9, at),
+    }
+}
+
+// The guard whose code stands at `at`: its items run when its form is 0 or more.
+fn run_guard(
+    program: &[u8],
+    at: usize,
+    tables: Tables,
+    left: usize,
+    loops: usize,
+    indices: [i16; 8],
+    progress: Progress,
+    flags: &mut [u8; 2048],
+    list: &mut [u32],
+) -> Walk
+    requires { ⌜ (loops + left ≤ 8) × (at < length (now program)) ⌝ }
+    ensures { λ r. ⌜ RunsNested (now (program .entry)) at 3 (unpacked «tables») («tables» .bases) left loops indices progress (now (list .entry)) (now (flags .entry)) r (now (list .exit)) (now (flags .exit)) ⌝ }
+{
+    if left == 0 {
+        return Walk::No(12, at);
+    }
+    match value_at(program, at + 1, loops, indices) {
+        Valued::No(number) => Walk::No(number, at),
+        Valued::Is(value, body) => {
+            if value < 0 {
+                return passed(program, body, tables, left - 1, loops, progress);
+            }
+            items(
+                program,
+                body,
+                tables,
+                left - 1,
+                loops,
+                indices,
+                progress,
+                flags,
+                list,
+            )
+        }
+    }
+}
+
+// The loop whose code stands at `at`.
+fn run_loop(
+    program: &[u8],
+    at: usize,
+    tables: Tables,
+    left: usize,
+    loops: usize,
+    indices: [i16; 8],
+    progress: Progress,
+    flags: &mut [u8; 2048],
+    list: &mut [u32],
+) -> Walk
+    requires { ⌜ (loops + left ≤ 8) × (at < length (now program)) ⌝ }
+    ensures { λ r. ⌜ RunsNested (now (program .entry)) at 2 (unpacked «tables») («tables» .bases) left loops indices progress (now (list .entry)) (now (flags .entry)) r (now (list .exit)) (now (flags .exit)) ⌝ }
+{
+    if left == 0 {
+        return Walk::No(12, at);
+    }
+    match range_at(program, at + 1, loops, indices) {
+        Range::No(number) => Walk::No(number, at),
+        Range::Over(first, last, step, body) => rounds(
+            program,
+            at,
+            body,
+            tables,
+            left - 1,
+            loops,
+            indices,
+            first,
+            last,
+            step,
+            progress,
+            flags,
+            list,
+        ),
+    }
+}
+
+// The rounds of the loop at `at`. The index is wider than 16 bits, so that a step past either end ends the loop. Where there was no
+// round, the end of the body is looked for; else the last round has found it.
+fn rounds(
+    program: &[u8],
+    at: usize,
+    body: usize,
+    tables: Tables,
+    left: usize,
+    loops: usize,
+    indices: [i16; 8],
+    first: i16,
+    last: i16,
+    step: i16,
+    progress: Progress,
+    flags: &mut [u8; 2048],
+    list: &mut [u32],
+) -> Walk
+    requires { ⌜ (loops + left < 8) × (step ≡ pos 0 → ⊥) ⌝ }
+    ensures { λ r. ⌜ RunsRounds (now (program .entry)) at body (unpacked «tables») («tables» .bases) left loops indices step last 65536 first 0 progress (now (list .entry)) (now (flags .entry)) r (now (list .exit)) (now (flags .exit)) ⌝ }
+{
+    let end = last as i32;
+    let by = step as i32;
+    let mut index = first as i32;
+    let mut past: usize = 0;
+    let mut done = progress;
+    while goes_on(index, end, step) {
+        match round(
+            program,
+            at,
+            body,
+            tables,
+            left,
+            loops,
+            indices,
+            index as i16,
+            done,
+            flags,
+            list,
+        ) {
+            Walk::No(number, place) => {
+                return Walk::No(number, place);
+            }
+            Walk::On(next, more) => {
+                past = next;
+                done = more;
+                index += by;
+            }
+        }
+    }
+    if past == 0 {
+        return passed(program, body, tables, left, loops + 1, done);
+    }
+    Walk::On(past, done)
+}
+
+// One round, at this index. Before it: are there at most 65,536 with it? 18
+fn round(
+    program: &[u8],
+    at: usize,
+    body: usize,
+    tables: Tables,
+    left: usize,
+    loops: usize,
+    indices: [i16; 8],
+    index: i16,
+    progress: Progress,
+    flags: &mut [u8; 2048],
+    list: &mut [u32],
+) -> Walk
+    requires { ⌜ loops + left < 8 ⌝ }
+    ensures { λ r. ⌜ RunsRound (now (program .entry)) at body (unpacked «tables») («tables» .bases) left loops indices index progress (now (list .entry)) (now (flags .entry)) r (now (list .exit)) (now (flags .exit)) ⌝ }
+{
+    let made = progress.rounds;
+    if 65536 <= made {
+        return Walk::No(18, at);
+    }
+    let mut inner = indices;
+    inner[loops] = index;
+    let more = Progress {
+        rounds: made + 1,
+        nodes: progress.nodes,
+        updates: progress.updates,
+    };
+    items(
+        program,
+        body,
+        tables,
+        left,
+        loops + 1,
+        inner,
+        more,
+        flags,
+        list,
+    )
+}

@@ -1,0 +1,550 @@
+// One executed statement writes one update into the lent list.
+ghost use mathlib.Core.Path.{_≡_};
+ghost use mathlib.Core.Bool.{true};
+ghost use mathlib.Core.List.{[], _∷_};
+ghost use Prim.Native.Nat.{_+_, _*_, _<_, _≤_};
+ghost use lib.ListN.{length, getD, drop};
+ghost use lib.Seq.{sets};
+ghost use lib.Dec.{ltb};
+ghost use mir.Syntax.{w32};
+ghost use mir.Val.{ofZ};
+ghost use Rattle.model.specs.Tables.{arrayAt};
+ghost use Rattle.reader.specs.Entries.{unpacked};
+ghost use Rattle.unroller.specs.Run.{fits32};
+ghost use Rattle.unroller.specs.Walk.{RunsStatement};
+ghost use Rattle.unroller.specs.Writes.{InExtent, Below, Subscript, CellsFrom, WritesRead, WritesLiteral, WritesConstant, WritesLeaf, WritesNode, WritesOperator, WritesArgs, spot, mayRead, recordFine, scanned, Marks, WritesUpdate, Sources, RunsUpdate};
+use crate::forms::Valued;
+use crate::forms::value_at;
+use crate::walk::Progress;
+use crate::walk::Walk;
+use reader::expressions::expression_end;
+use reader::expressions::forms_end;
+use reader::fields::Field;
+use reader::fields::Place;
+use reader::fields::byte_at;
+use reader::fields::index_at;
+use reader::fields::name_at;
+use reader::tables::Tables;
+use reader::tables::arity_of;
+use reader::tables::array_count;
+use reader::tables::dimensions_of;
+use reader::tables::operator_count;
+use reader::tables::role_of;
+
+// A cell number, or one made of some subscripts, and the place past them; or a question's number.
+enum Cell {
+    Is(usize, usize),
+    No(u8),
+}
+
+// The place past an expression, and the word past its records; or a question's number.
+enum Wrote {
+    To(usize, usize),
+    No(u8),
+}
+
+fn wide(x: u16) -> usize
+    ensures { λ r. ⌜ (r ≡ x) × (r < 65536) ⌝ }
+{
+    x as usize
+}
+
+fn number(x: u32) -> usize
+    ensures { λ r. ⌜ r ≡ x ⌝ }
+{
+    x as usize
+}
+
+// A number as a word; what stands in a list always fits.
+fn word(x: usize) -> u32
+    ensures { λ r. ⌜ (x < 4294967296 → r ≡ x) ⌝ }
+{
+    if x < 4294967296 { x as u32 } else { 0 }
+}
+
+// A signed number as a word, modulo 2^32.
+fn bits_of(v: i64) -> u32
+    ensures { λ r. ⌜ (fits32 v ≡ true → r ≡ ofZ w32 v) ⌝ }
+{
+    if v < 0 {
+        4294967295 - word((-1 - v) as usize)
+    } else {
+        word(v as usize)
+    }
+}
+
+// 0 where the array is not declared, or has fewer dimensions.
+fn extent_of(tables: Tables, array: usize, dimension: usize) -> usize
+    ensures { λ r. ⌜ (r ≡ getD (arrayAt (unpacked «tables» .arrays) array .extents) dimension 0) × (r < 65536) ⌝ }
+{
+    if array < array_count(tables) {
+        if dimension < dimensions_of(tables, array) {
+            let extents = tables.extents;
+            return wide(extents[3 * array + dimension]);
+        }
+    }
+    0
+}
+
+// Is the subscript inside its extent? 16
+fn in_extent(v: i64, extent: usize, next: usize) -> Cell
+    ensures says { λ r. ⌜ InExtent extent v next r ⌝ }
+    ensures below { λ r. ⌜ Below extent r ⌝ }
+{
+    if v < 0 {
+        return Cell::No(16);
+    }
+    let k = v as usize;
+    if k < extent {
+        return Cell::Is(k, next);
+    }
+    Cell::No(16)
+}
+
+fn subscript_at(program: &[u8], at: usize, loops: usize, indices: [i16; 8], extent: usize) -> Cell
+    ensures says { λ r. ⌜ Subscript (now (program .entry)) at loops indices extent r ⌝ }
+    ensures below { λ r. ⌜ Below extent r ⌝ }
+{
+    match value_at(program, at, loops, indices) {
+        Valued::No(number) => Cell::No(number),
+        Valued::Is(v, next) => in_extent(v, extent, next),
+    }
+}
+
+// The cell of an array at the subscripts that stand at `at`, last fastest.
+fn cell_at(
+    program: &[u8],
+    at: usize,
+    tables: Tables,
+    loops: usize,
+    indices: [i16; 8],
+    array: usize,
+) -> Cell
+    ensures { λ r. ⌜ CellsFrom (now (program .entry)) at loops indices 0 (arrayAt (unpacked «tables» .arrays) array .extents) r ⌝ }
+{
+    let dimensions = dimensions_of(tables, array);
+    let mut cell: usize = 0;
+    let mut next = at;
+    let mut k: usize = 0;
+    while k < dimensions {
+        let extent = extent_of(tables, array, k);
+        match subscript_at(program, next, loops, indices, extent) {
+            Cell::No(number) => {
+                return Cell::No(number);
+            }
+            Cell::Is(v, to) => {
+                cell = cell * extent + v;
+                next = to;
+                k += 1;
+            }
+        }
+    }
+    Cell::Is(cell, next)
+}
+
+fn put(list: &mut [u32], to: usize, code: u32, x: u32, y: u32)
+    requires { ⌜ to + 3 ≤ length (now list) ⌝ }
+    ensures { λ _. ⌜ now (list .exit) ≡ sets (now (list .entry)) to (code ∷ x ∷ y ∷ []) ⌝ }
+{
+    list[to] = code;
+    list[to + 1] = x;
+    list[to + 2] = y;
+}
+
+fn write_read(
+    program: &[u8],
+    at: usize,
+    tables: Tables,
+    loops: usize,
+    indices: [i16; 8],
+    list: &mut [u32],
+    to: usize,
+) -> Wrote
+    requires { ⌜ to + 3 ≤ length (now list) ⌝ }
+    ensures { λ r. ⌜ WritesRead (now (program .entry)) at (unpacked «tables») loops indices (now (list .entry)) to r (now (list .exit)) ⌝ }
+{
+    match index_at(program, at, array_count(tables)) {
+        Field::Not(number, _) => Wrote::No(number),
+        Field::Is(array, next) => match cell_at(program, next, tables, loops, indices, array) {
+            Cell::No(number) => Wrote::No(number),
+            Cell::Is(cell, end) => {
+                put(list, to, 16, word(array), word(cell));
+                Wrote::To(end, to + 3)
+            }
+        },
+    }
+}
+
+fn write_literal(
+    program: &[u8],
+    at: usize,
+    loops: usize,
+    indices: [i16; 8],
+    list: &mut [u32],
+    to: usize,
+) -> Wrote
+    requires { ⌜ to + 3 ≤ length (now list) ⌝ }
+    ensures { λ r. ⌜ WritesLiteral (now (program .entry)) at loops indices (now (list .entry)) to r (now (list .exit)) ⌝ }
+{
+    match value_at(program, at, loops, indices) {
+        Valued::No(number) => Wrote::No(number),
+        Valued::Is(v, next) => {
+            put(list, to, 18, bits_of(v), 0);
+            Wrote::To(next, to + 3)
+        }
+    }
+}
+
+fn write_constant(program: &[u8], at: usize, list: &mut [u32], to: usize) -> Wrote
+    requires { ⌜ to + 3 ≤ length (now list) ⌝ }
+    ensures { λ r. ⌜ WritesConstant (now (program .entry)) at (now (list .entry)) to r (now (list .exit)) ⌝ }
+{
+    match name_at(program, at) {
+        Field::Not(number, _) => Wrote::No(number),
+        Field::Is(name, next) => {
+            put(list, to, 19, word(name), 0);
+            Wrote::To(next, to + 3)
+        }
+    }
+}
+
+// What follows the code of a read, a literal or a constant.
+fn write_leaf(
+    program: &[u8],
+    code: usize,
+    at: usize,
+    tables: Tables,
+    loops: usize,
+    indices: [i16; 8],
+    list: &mut [u32],
+    to: usize,
+) -> Wrote
+    requires { ⌜ to + 3 ≤ length (now list) ⌝ }
+    ensures { λ r. ⌜ WritesLeaf (now (program .entry)) at (unpacked «tables») loops indices code (now (list .entry)) to r (now (list .exit)) ⌝ }
+{
+    match code {
+        0x10 => write_read(program, at, tables, loops, indices, list, to),
+        0x12 => write_literal(program, at, loops, indices, list, to),
+        0x13 => write_constant(program, at, list, to),
+        _ => Wrote::No(9),
+    }
+}
+
+// The expression at `at`, in which operators may nest `left` deep, into the list from word `to` on.
+fn write_node(
+    program: &[u8],
+    at: usize,
+    tables: Tables,
+    loops: usize,
+    indices: [i16; 8],
+    left: usize,
+    list: &mut [u32],
+    to: usize,
+) -> Wrote
+    ensures { λ r. ⌜ WritesNode (now (program .entry)) at (unpacked «tables») loops indices left (now (list .entry)) to r (now (list .exit)) ⌝ }
+{
+    if list.len() < 3 {
+        return Wrote::No(20);
+    }
+    if list.len() - 3 < to {
+        return Wrote::No(20);
+    }
+    match byte_at(program, at) {
+        Field::Not(number, _) => Wrote::No(number),
+        Field::Is(code, next) => {
+            if code == 0x11 {
+                return write_operator(program, next, tables, loops, indices, left, list, to);
+            }
+            write_leaf(program, code, next, tables, loops, indices, list, to)
+        }
+    }
+}
+
+// What follows an operator's code.
+fn write_operator(
+    program: &[u8],
+    at: usize,
+    tables: Tables,
+    loops: usize,
+    indices: [i16; 8],
+    left: usize,
+    list: &mut [u32],
+    to: usize,
+) -> Wrote
+    requires { ⌜ to + 3 ≤ length (now list) ⌝ }
+    ensures { λ r. ⌜ WritesOperator (now (program .entry)) at (unpacked «tables») loops indices left (now (list .entry)) to r (now (list .exit)) ⌝ }
+{
+    if left == 0 {
+        return Wrote::No(12);
+    }
+    match index_at(program, at, operator_count(tables)) {
+        Field::Not(number, _) => Wrote::No(number),
+        Field::Is(operator, next) => {
+            put(list, to, 17, word(operator), 0);
+            let n = arity_of(tables, operator);
+            write_args(
+                program,
+                next,
+                tables,
+                loops,
+                indices,
+                left - 1,
+                n,
+                list,
+                to + 3,
+            )
+        }
+    }
+}
+
+// n arguments in a row.
+fn write_args(
+    program: &[u8],
+    at: usize,
+    tables: Tables,
+    loops: usize,
+    indices: [i16; 8],
+    left: usize,
+    n: usize,
+    list: &mut [u32],
+    to: usize,
+) -> Wrote
+    ensures { λ r. ⌜ WritesArgs (now (program .entry)) at (unpacked «tables») loops indices left n (now (list .entry)) to r (now (list .exit)) ⌝ }
+{
+    let mut next = at;
+    let mut end = to;
+    let mut more = n;
+    while 0 < more {
+        match write_node(program, next, tables, loops, indices, left, list, end) {
+            Wrote::No(number) => {
+                return Wrote::No(number);
+            }
+            Wrote::To(past, last) => {
+                next = past;
+                end = last;
+                more -= 1;
+            }
+        }
+    }
+    Wrote::To(next, end)
+}
+
+// The number of a cell among the cells of all arrays; 2,048 for a cell beyond them.
+fn spot_of(tables: Tables, array: usize, cell: usize) -> usize
+    ensures { λ r. ⌜ r ≡ spot («tables» .bases) array cell ⌝ }
+{
+    if 16 < array {
+        return 2048;
+    }
+    let bases = tables.bases;
+    let base = bases[array];
+    if 2048 < base {
+        return 2048;
+    }
+    if 2048 < cell {
+        return 2048;
+    }
+    base + cell
+}
+
+// Has the cell a starting content, or has an earlier update written it?
+fn may_read(tables: Tables, flags: &[u8; 2048], array: usize, cell: usize) -> bool
+    ensures { λ r. ⌜ r ≡ mayRead (unpacked «tables») («tables» .bases) (now (flags .entry)) array cell ⌝ }
+{
+    let role = role_of(tables, array);
+    if role == 0 {
+        return true;
+    }
+    if role == 2 {
+        return true;
+    }
+    let k = spot_of(tables, array, cell);
+    if k < 2048 {
+        return flags[k] == 1;
+    }
+    false
+}
+
+// Is the record at `at` no read, or one of a cell that may be read?
+fn record_fine(list: &[u32], at: usize, tables: Tables, flags: &[u8; 2048]) -> bool
+    requires { ⌜ at + 3 ≤ length (now list) ⌝ }
+    ensures { λ r. ⌜ r ≡ recordFine (mayRead (unpacked «tables») («tables» .bases) (now (flags .entry))) (drop at (now (list .entry))) ⌝ }
+{
+    if list[at] == 16 {
+        may_read(tables, flags, number(list[at + 1]), number(list[at + 2]))
+    } else {
+        true
+    }
+}
+
+// Is each cell read in the n records from word `from` on one that may be read?
+fn all_written(list: &[u32], from: usize, n: usize, tables: Tables, flags: &[u8; 2048]) -> bool
+    requires { ⌜ from + 3 * n ≤ length (now list) ⌝ }
+    ensures { λ r. ⌜ r ≡ scanned (mayRead (unpacked «tables») («tables» .bases) (now (flags .entry))) n (drop from (now (list .entry))) ⌝ }
+{
+    let mut at = from;
+    let mut left = n;
+    while 0 < left {
+        if !record_fine(list, at, tables, flags) {
+            return false;
+        }
+        at += 3;
+        left -= 1;
+    }
+    true
+}
+
+fn mark(flags: &mut [u8; 2048], k: usize)
+    ensures { λ _. ⌜ Marks (now (flags .entry)) k (now (flags .exit)) ⌝ }
+{
+    if k < 2048 {
+        flags[k] = 1;
+    }
+}
+
+// The record of the target at word `to`, and the expression's behind it: the target's cell and the place past the expression.
+fn write_update(
+    program: &[u8],
+    array: usize,
+    at: usize,
+    source: usize,
+    tables: Tables,
+    loops: usize,
+    indices: [i16; 8],
+    list: &mut [u32],
+    to: usize,
+) -> Cell
+    requires { ⌜ to + 3 ≤ length (now list) ⌝ }
+    ensures { λ r. ⌜ WritesUpdate (now (program .entry)) array at source (unpacked «tables») loops indices (now (list .entry)) to r (now (list .exit)) ⌝ }
+{
+    match cell_at(program, at, tables, loops, indices, array) {
+        Cell::No(number) => Cell::No(number),
+        Cell::Is(cell, _) => {
+            put(list, to, 1, word(array), word(cell));
+            match write_node(program, source, tables, loops, indices, 12, list, to + 3) {
+                Wrote::No(number) => Cell::No(number),
+                Wrote::To(next, _) => Cell::Is(cell, next),
+            }
+        }
+    }
+}
+
+// The number of nodes of the expression behind a target's subscripts, and its place.
+fn source_at(program: &[u8], at: usize, tables: Tables, loops: usize, array: usize) -> Field
+    ensures { λ r. ⌜ Sources (now (program .entry)) at (unpacked «tables») loops array r ⌝ }
+{
+    match forms_end(program, at, loops, dimensions_of(tables, array)) {
+        Place::Not(number, place) => Field::Not(number, place),
+        Place::Next(source) => match expression_end(program, source, tables, loops) {
+            Field::Not(number, place) => Field::Not(number, place),
+            Field::Is(nodes, _) => Field::Is(nodes, source),
+        },
+    }
+}
+
+// What is asked and done behind questions 19 and 20 of the statement whose code stands at `at`.
+fn update(
+    program: &[u8],
+    at: usize,
+    array: usize,
+    target: usize,
+    source: usize,
+    nodes: usize,
+    tables: Tables,
+    loops: usize,
+    indices: [i16; 8],
+    progress: Progress,
+    flags: &mut [u8; 2048],
+    list: &mut [u32],
+) -> Walk
+    requires { ⌜ (progress .updates < 2048) × (progress .nodes + nodes ≤ 8192) × (32768 ≤ length (now list)) ⌝ }
+    ensures { λ r. ⌜ RunsUpdate (now (program .entry)) at array target source nodes (unpacked «tables») («tables» .bases) loops indices «progress» (now (list .entry)) (now (flags .entry)) r (now (list .exit)) (now (flags .exit)) ⌝ }
+{
+    let to = 98 + 3 * (progress.updates + progress.nodes);
+    match write_update(
+        program,
+        array,
+        target,
+        source,
+        tables,
+        loops,
+        indices,
+        list,
+        to,
+    ) {
+        Cell::No(number) => Walk::No(number, at),
+        Cell::Is(cell, next) => {
+            if !all_written(list, to + 3, nodes, tables, flags) {
+                return Walk::No(17, at);
+            }
+            mark(flags, spot_of(tables, array, cell));
+            Walk::On(
+                next,
+                Progress {
+                    rounds: progress.rounds,
+                    nodes: progress.nodes + nodes,
+                    updates: progress.updates + 1,
+                },
+            )
+        }
+    }
+}
+
+fn too_many(nodes: usize, more: usize) -> bool
+    ensures { λ r. ⌜ r ≡ ltb 8192 (nodes + more) ⌝ }
+{
+    if 8192 < nodes {
+        return true;
+    }
+    8192 - nodes < more
+}
+
+// The statement whose code stands at `at`. Its questions in order: 19, 20, then 16 of all subscripts, last 17.
+pub(crate) fn statement(
+    program: &[u8],
+    at: usize,
+    tables: Tables,
+    loops: usize,
+    indices: [i16; 8],
+    progress: Progress,
+    flags: &mut [u8; 2048],
+    list: &mut [u32],
+) -> Walk
+    ensures { λ r. ⌜ RunsStatement (now (program .entry)) at (unpacked «tables») («tables» .bases) loops indices «progress» (now (list .entry)) (now (flags .entry)) r (now (list .exit)) (now (flags .exit)) ⌝ }
+{
+    if 2047 < progress.updates {
+        return Walk::No(19, at);
+    }
+    // Neither can be of a statement that was read and a list that was lent.
+    if program.len() <= at {
+        return Walk::No(3, at);
+    }
+    if list.len() < 32768 {
+        return Walk::No(25, at);
+    }
+    match index_at(program, at + 1, array_count(tables)) {
+        Field::Not(number, _) => Walk::No(number, at),
+        Field::Is(array, target) => match source_at(program, target, tables, loops, array) {
+            Field::Not(number, _) => Walk::No(number, at),
+            Field::Is(nodes, source) => {
+                if too_many(progress.nodes, nodes) {
+                    return Walk::No(20, at);
+                }
+                update(
+                    program,
+                    at,
+                    array,
+                    target,
+                    source,
+                    nodes,
+                    tables,
+                    loops,
+                    indices,
+                    progress,
+                    flags,
+                    list,
+                )
+            }
+        },
+    }
+}
