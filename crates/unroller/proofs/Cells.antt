@@ -11,14 +11,13 @@ use lib.Seq.{drop-cons}
 use lib.Dec.{T, ltb, leb}
 use lib.IntN.{ℤ, pos, negsuc, natAbs, _-ℤ_}
 use lib.Signed.{ltZ, nonNeg}
-use borrow.Author.Tests.{ltb-true, ltb-false, lt-ltb, le-ltb, leb-true}
+use borrow.Author.Tests.{ltb-true, ltb-false, le-ltb, leb-true}
 use mir.Syntax.{w32, w64}
 use mir.Val.{toZ, ofZ, SFits, Fits}
 use mir.Facts.{toZ-ofZ}
-use Rattle.model.specs.Tables.{Array, Tables, arrayAt}
+use Rattle.model.specs.Tables.{Array, arrayAt}
 use Rattle.model.proofs.Abs.{sub-pos}
-use Rattle.reader.specs.Field.{Outcome, got, no, times}
-use Rattle.reader.specs.Syntax.{Form}
+use Rattle.reader.specs.Field.{got, times}
 use Rattle.reader.specs.Grammar.{form}
 use Rattle.reader.specs.Entries.{arrayOf, unpacked}
 use Rattle.reader.specs.declared.tables.Tables.{Tables as Packed}

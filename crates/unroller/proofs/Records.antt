@@ -1,10 +1,10 @@
 -- An expression's records in the list: what each writer leaves, from what it called.
 use mathlib.Core.Path.{_≡_, refl, sym, ap, ap₂, _∙_, subst}
-use Prim.Native.Nat.{ℕ, zero, suc, _+_, _-_, _*_, _≤_, _<_}
+use Prim.Native.Nat.{ℕ, zero, suc, _+_, _*_, _≤_, _<_}
 use native.Mathlib.Omega.{arith}
 use native.Mathlib.Nat.{add-zero}
 use mathlib.Core.List.{List, [], _∷_, _++_}
-use mathlib.Core.Bool.{Bool, true, false}
+use mathlib.Core.Bool.{true, false}
 use lib.ListN.{length, getD, take, set, length-append}
 use lib.Seq.{sets, length-sets}
 use lib.Dec.{eqb}
@@ -13,27 +13,26 @@ use borrow.Author.Tests.{eqb-true, ne-eqb}
 use mir.Syntax.{w32, w64}
 use mir.Val.{ofZ, toZ, SFits}
 use mir.Facts.{toZ-ofZ}
-use Rattle.model.specs.Test.{if_then_else_}
-use Rattle.model.specs.Tables.{Tables, cells, arrayAt, inside}
-use Rattle.model.specs.Update.{Tree, Trees, Update, size, sizes}
-use Rattle.model.specs.Update.Tree.{cell as cellOf, number, constant, operator}
-use Rattle.model.specs.Update.Trees.{nil, cons}
-use Rattle.reader.specs.Field.{Outcome, got, no, Reader, andThen, refuse, byte, u32, times}
+use Rattle.model.specs.Tables.{Tables, arrayAt, inside}
+use Rattle.model.specs.Update.{Tree, Trees, size, sizes}
+use Rattle.model.specs.Update.Tree.{cell as cellOf, number, operator}
+use Rattle.model.specs.Update.Trees.{cons}
+use Rattle.reader.specs.Field.{Outcome, got, no, byte, u32, times}
 use Rattle.reader.specs.Syntax.{Form, Expr, Exprs, count, counts}
 use Rattle.reader.specs.Syntax.Expr.{read, apply, literal, named}
 use Rattle.reader.specs.Syntax.Exprs.{none, more}
-use Rattle.reader.specs.Grammar.{form, subscripts, index, readOf, literalOf, constantOf, applyOf, node, applied, expression}
+use Rattle.reader.specs.Grammar.{form, subscripts, index, readOf, literalOf, constantOf, applyOf, node, applied}
 use Rattle.reader.specs.Answers.{fieldSays}
 use Rattle.reader.specs.declared.fields.Field.{Field}
 use Rattle.reader.specs.declared.fields.Field.the-variants as field
 use Rattle.reader.proofs.Binds.{read-by, got-is}
 use Rattle.reader.proofs.Steps.{field-got, field-no}
-use Rattle.unroller.specs.Run.{Ran, ok, stop, _>>=_, fits32, worked, cellFrom, cellAt, tree, trees}
+use Rattle.unroller.specs.Run.{Ran, ok, stop, _>>=_, fits32, worked, cellAt, tree, trees}
 use Rattle.unroller.specs.Forms.{ValueIs, Values}
 use Rattle.unroller.specs.Allowed.{allowedTables}
-use Rattle.unroller.specs.Layout.{treeWords, treesWords, updateWords}
-use Rattle.unroller.specs.Stands.{basesOf, Proper}
-use Rattle.unroller.specs.Writes.{CellIs, CellsFrom, WroteIs, Writes, WritesRead, WritesLiteral, WritesConstant, leafOf, WritesLeaf, WritesNode, WritesOperator, WritesArgs, UpdateIs, updateOf, Stated, WritesUpdate}
+use Rattle.unroller.specs.Layout.{treeWords, treesWords}
+use Rattle.unroller.specs.Stands.{basesOf}
+use Rattle.unroller.specs.Writes.{CellIs, CellsFrom, WroteIs, WritesRead, WritesLiteral, WritesConstant, WritesLeaf, WritesNode, WritesOperator, WritesArgs}
 use Rattle.unroller.specs.declared.forms.Valued.{Valued}
 use Rattle.unroller.specs.declared.forms.Valued.the-variants as valued
 use Rattle.unroller.specs.declared.statement.Cell.{Cell}
@@ -41,7 +40,7 @@ use Rattle.unroller.specs.declared.statement.Cell.the-variants as cell
 use Rattle.unroller.specs.declared.statement.Wrote.{Wrote}
 use Rattle.unroller.specs.declared.statement.Wrote.the-variants as wrote
 use Rattle.unroller.proofs.Parts.{within-high, TablesParts, tables-parts, room}
-use Rattle.unroller.proofs.Laws.{tree-length, trees-length}
+use Rattle.unroller.proofs.Laws.{tree-length}
 use Rattle.unroller.proofs.Runs.{run-by, ok-is}
 use Rattle.unroller.proofs.Accepted.{worked-fits, cell-at-inside, Bytes, index-below, u32-below, subscripts-length}
 use Rattle.unroller.proofs.Stands.{bases-length, bases-last, bases-sorted, proper-inside}

@@ -1,22 +1,21 @@
 -- Question 17, asked of the records of an expression, and the flags of cells written.
-use mathlib.Core.Path.{_≡_, refl, sym, ap, ap₂, _∙_, subst}
-use Prim.Native.Nat.{ℕ, zero, suc, _+_, _-_, _*_, _≤_, _<_}
+use mathlib.Core.Path.{_≡_, refl, sym, ap, ap₂, _∙_}
+use Prim.Native.Nat.{ℕ, zero, suc, _+_, _≤_, _<_}
 use native.Mathlib.Omega.{arith}
-use mathlib.Core.List.{List, [], _∷_, _++_, append-assoc, append-nil}
-use mathlib.Core.Bool.{Bool, true, false, _&&_, _||_, not, and-assoc, and-true, or-assoc, or-false, or-true}
+use mathlib.Core.List.{List, [], _∷_, _++_, append-assoc}
+use mathlib.Core.Bool.{Bool, true, false, _&&_, _||_, and-assoc, and-true, or-assoc, or-false, or-true}
 use lib.ListN.{length, getD, drop, set}
 use lib.Seq.{getD-drop, drop-drop, getD-set-same, getD-set-other}
-use lib.Dec.{ltb, leb, eqb}
-use borrow.Author.Tests.{ltb-true, ltb-false, le-ltb, lt-ltb, eqb-true, eqb-false, eq-eqb, ne-eqb}
-use Rattle.model.specs.Test.{if_then_else_}
-use Rattle.model.specs.Tables.{Array, Tables, arrayAt, starts, inside}
+use lib.Dec.{ltb, eqb}
+use borrow.Author.Tests.{ltb-true, ltb-false, le-ltb, lt-ltb, eqb-true, eqb-false, ne-eqb}
+use Rattle.model.specs.Tables.{Tables, arrayAt, starts, inside}
 use Rattle.model.specs.Update.{Tree, Trees, Update, size, sizes, writes, written}
 use Rattle.model.specs.Update.Tree.{cell, number, constant, operator}
 use Rattle.model.specs.Update.Trees.{nil, cons}
 use Rattle.unroller.specs.Run.{readable, readables}
 use Rattle.unroller.specs.Allowed.{proper, propers}
 use Rattle.unroller.specs.Layout.{treeWords, treesWords}
-use Rattle.unroller.specs.Stands.{basesOf, Proper}
+use Rattle.unroller.specs.Stands.{basesOf}
 use Rattle.unroller.specs.Walk.{Based}
 use Rattle.unroller.specs.Writes.{spot, mayRead, recordFine, scanned}
 use Rattle.unroller.proofs.Parts.{both, within-high, TablesParts}

@@ -1,24 +1,23 @@
 -- One executed statement: from its parts to the run's answer.
 use mathlib.Core.Path.{_≡_, refl, sym, ap, ap₂, _∙_, subst}
-use Prim.Native.Nat.{ℕ, zero, suc, _+_, _-_, _*_, _≤_, _<_}
+use Prim.Native.Nat.{ℕ, _+_, _-_, _*_, _≤_, _<_}
 use native.Mathlib.Omega.{arith}
 use mathlib.Core.List.{List, [], _∷_, _++_, append-assoc}
 use mathlib.Core.Bool.{Bool, true, false, not}
 use lib.ListN.{length, getD, take, drop, set, length-append, length-set, length-take}
 use lib.Seq.{sets, sets-eq, length-sets, drop-at}
-use lib.Dec.{ltb, leb, eqb}
+use lib.Dec.{ltb, eqb}
 use lib.IntN.{ℤ, pos, negsuc}
 use borrow.Author.Tests.{le-leb, lt-leb, lt-ltb, le-ltb, ltb-true, ltb-false}
-use Rattle.model.specs.Tables.{Array, Tables, arrayAt, inside}
-use Rattle.model.specs.Update.{Tree, Trees, Update, Listed, size, nodes}
-use Rattle.model.specs.Update.Tree.{cell as cellOf, number, constant, operator}
-use Rattle.model.specs.Update.Trees.{nil, cons}
+use Rattle.model.specs.Tables.{Tables, arrayAt, inside}
+use Rattle.model.specs.Update.{Tree, Update, size, nodes}
+use Rattle.model.specs.Update.Tree.{cell as cellOf, number, operator}
+use Rattle.model.specs.Update.Trees.{cons}
 use Rattle.reader.specs.Field.{Outcome, got, no, times}
-use Rattle.reader.specs.Syntax.{Form, Expr, Exprs, Item, count}
+use Rattle.reader.specs.Syntax.{Form, Expr, Exprs, count}
 use Rattle.reader.specs.Syntax.Expr.{read, apply, literal, named}
 use Rattle.reader.specs.Syntax.Exprs.{none, more}
-use Rattle.reader.specs.Syntax.Item.{statement}
-use Rattle.reader.specs.Grammar.{form, subscripts, index, node, applied, expression, statementOf}
+use Rattle.reader.specs.Grammar.{form, subscripts, index, applied, expression, statementOf}
 use Rattle.reader.specs.Answers.{through, ended, fieldSays, placeSays}
 use Rattle.reader.specs.declared.fields.Field.{Field}
 use Rattle.reader.specs.declared.fields.Field.the-variants as field
@@ -28,11 +27,10 @@ use Rattle.reader.proofs.Binds.{read-by, asked-by, got-is}
 use Rattle.reader.proofs.Steps.{field-got, field-no}
 use Rattle.reader.proofs.Forward.{held-got, index-held}
 use Rattle.unroller.specs.Run.{Ran, ok, stop, _>>=_, ask, fits32, valueAt, worked, inExtent, cellFrom, cellAt, tree, trees, readable, Done, update, run}
-use Rattle.unroller.specs.Allowed.{allowedTables, proper}
 use Rattle.unroller.specs.Layout.{treeWords, updateWords, words, layout}
 use Rattle.unroller.specs.Stands.{basesOf}
 use Rattle.unroller.specs.Walk.{Based, Holds, Walked, RunsStatement}
-use Rattle.unroller.specs.Writes.{CellIs, CellsFrom, WroteIs, WritesNode, spot, mayRead, scanned, Marks, UpdateIs, updateOf, Stated, WritesUpdate, Sources, RunsUpdate}
+use Rattle.unroller.specs.Writes.{CellIs, CellsFrom, WroteIs, WritesNode, spot, mayRead, scanned, Marks, UpdateIs, updateOf, Stated, WritesUpdate, Sources, RunsUpdate, RunsTarget}
 use Rattle.unroller.specs.declared.walk.Progress.{Progress}
 use Rattle.unroller.specs.declared.walk.Walk.{Walk}
 use Rattle.unroller.specs.declared.walk.Walk.the-variants as walk
@@ -40,12 +38,12 @@ use Rattle.unroller.specs.declared.statement.Cell.{Cell}
 use Rattle.unroller.specs.declared.statement.Cell.the-variants as cell
 use Rattle.unroller.specs.declared.statement.Wrote.{Wrote}
 use Rattle.unroller.specs.declared.statement.Wrote.the-variants as wrote
-use Rattle.unroller.proofs.Parts.{within-high, TablesParts, tables-parts, nodes-snoc}
+use Rattle.unroller.proofs.Parts.{within-high, tables-parts, nodes-snoc}
 use Rattle.unroller.proofs.Laws.{words-long, layout-snoc}
 use Rattle.unroller.proofs.Runs.{run-by, ok-is}
 use Rattle.unroller.proofs.Accepted.{Bytes, Sound, cell-at-inside, subscripts-length, node-sound, applied-sound, index-below, tree-proper}
 use Rattle.unroller.proofs.Records.{sets-append, words-count, spot-below}
-use Rattle.unroller.proofs.Scan.{fine, scan-whole, fine-readable, spot-is, may-is, marked-more}
+use Rattle.unroller.proofs.Scan.{scan-whole, fine-readable, spot-is, may-is, marked-more}
 
 -- the test of question 20
 pub many-already : (a b : ℕ) → 8192 < a → true ≡ ltb 8192 (a + b)
@@ -311,15 +309,15 @@ module _ (s : List ℕ) (p a at source n : ℕ) (t : Tables) (bases : List ℕ) 
         rw i (refl, refl)
 
     pub run-on : (r : Bool) (flags′ : List ℕ) → r ≡ scanned (mayRead t bases flags) n (drop (to + 3) list1) → r ≡ true → (k : ℕ) → k ≡ spot bases a c → Marks flags k flags′ →
-        Goal (walk.On past (record { rounds = progress .rounds; nodes = progress .nodes + n; updates = progress .updates + 1 })) list1 flags′
+        (after : Progress) → (after .rounds ≡ progress .rounds) × (after .nodes ≡ progress .nodes + n) × (after .updates ≡ progress .updates + 1) → Goal (walk.On past after) list1 flags′
     unfolding Marks
-    run-on r flags′ v y k f marks =
-        by-known (walk.On past (record { rounds = progress .rounds; nodes = progress .nodes + n; updates = progress .updates + 1 })) list1 flags′ λ fs e next d u q bs h o.
+    run-on r flags′ v y k f marks after so =
+        by-known (walk.On past after) list1 flags′ λ fs e next d u q bs h o.
         let i : readable (u .source) (t .arrays) (d .updates) ≡ true = sym (v ∙ o .reads) ∙ y in
         rw i (o .place, holds e next d u q bs h (o .array) (o .target) (o .cell-in) (o .nodes-are) (o .list-is))
       where
         holds : (e : Expr) (next : ℕ) (d : Done) (u : Update) → n ≡ count e → Based t bases → Holds t d progress list flags → u .array ≡ a → u .target ≡ c → inside (t .arrays) a (u .target) ≡ true →
-            size (u .source) ≡ n → list1 ≡ sets list to (updateWords u) → Holds t (done d e u) (record { rounds = progress .rounds; nodes = progress .nodes + n; updates = progress .updates + 1 }) list1 flags′
+            size (u .source) ≡ n → list1 ≡ sets list to (updateWords u) → Holds t (done d e u) after list1 flags′
         holds e next d u q bs h ua ut ci ns li =
             let parts = tables-parts t (h .tables-allowed) in
             let within : inside (t .arrays) (u .array) (u .target) ≡ true = subst (λ (a : ℕ). inside (t .arrays) a (u .target) ≡ true) (sym ua) ci in
@@ -329,6 +327,9 @@ module _ (s : List ℕ) (p a at source n : ℕ) (t : Tables) (bases : List ℕ) 
             let len = ap length li ∙ length-sets list to (updateWords u) in
             let more-updates = length-append (d .updates) (u ∷ []) in
             let more-nodes = nodes-snoc (d .updates) u in
+            let rounds-are = so .0 in
+            let nodes-are = so .1 in
+            let updates-are = so .2 in
             let hc = h .count in
             let hu = h .updates in
             let hn = h .counted in
@@ -337,7 +338,7 @@ module _ (s : List ℕ) (p a at source n : ℕ) (t : Tables) (bases : List ℕ) 
             let here : to ≡ length (words (record { tables = t; updates = d .updates })) = omega arith in
             record {
               tables-allowed = h .tables-allowed;
-              rounds = h .rounds;
+              rounds = rounds-are ∙ h .rounds;
               count = omega arith;
               updates = omega arith;
               counted = omega arith;
@@ -352,6 +353,38 @@ module _ (s : List ℕ) (p a at source n : ℕ) (t : Tables) (bases : List ℕ) 
               flags-long = ap length set-is ∙ length-set flags _ 1 ∙ h .flags-long;
               marked = marked-more t bases parts bs flags (d .updates) (h .flags-long) (h .marked) u within flags′ set-is;
             }
+
+-- behind question 19
+module _ (s : List ℕ) (p a at : ℕ) (t : Tables) (bases : List ℕ) (loops : ℕ) (is : List ℤ) (progress : Progress) (list flags : List ℕ) (r : Walk) (list′ flags′ : List ℕ) where
+  abbrev Aimed : Type 0
+  Aimed = RunsTarget s p a at t bases loops is progress list flags r list′ flags′
+
+  module _ (n : Field) (tells : Sources s at t loops a n) where
+    found : (source : ℕ) (fs : List Form) (e : Expr) (next : ℕ) → Stated s at source t loops is a fs e next → n ≡ field.Is (count e) source
+    unfolding Sources
+    found source fs e next st = tells fs source e next (st .target) (st .behind)
+
+    pub no-source : (k q : ℕ) → n ≡ field.Not k q → Aimed
+    unfolding RunsTarget
+    no-source k q y source fs e next d st bs h = let v = found source fs e next st in absurd (let z : _≡_ {A = ℕ} 0 1 = cc in omega arith)
+
+    module _ (c source : ℕ) (y : n ≡ field.Is c source) where
+      pub asked-20 : progress .updates < 2048 → r ≡ walk.No 20 p → 8192 < progress .nodes + c → Aimed
+      unfolding RunsTarget update
+      asked-20 few q g source1 fs e next d st bs h =
+          let v = found source1 fs e next st in
+          let k = h .updates in
+          let l = h .count in
+          let z : c ≡ count e = cc in
+          rw (q, le-leb (length (d .updates) + 1) 2048 (omega arith), lt-leb (d .nodes + count e) 8192 (omega arith)) (refl, refl)
+
+      pub updated : RunsUpdate s p a at source c t bases loops is progress list flags r list′ flags′ → Aimed
+      unfolding RunsTarget RunsUpdate
+      updated u source1 fs e next d st bs h =
+          let v = found source1 fs e next st in
+          let z : c ≡ count e = cc in
+          let w : source1 ≡ source = cc in
+          u fs e next d (subst (λ (q : ℕ). Stated s at q t loops is a fs e next) w st) z bs h
 
 -- the whole statement
 module _ (s : List ℕ) (at : ℕ) (t : Tables) (bases : List ℕ) (loops : ℕ) (is : List ℤ) (progress : Progress) (list flags : List ℕ) (r : Walk) (list′ flags′ : List ℕ) where
@@ -388,34 +421,12 @@ module _ (s : List ℕ) (at : ℕ) (t : Tables) (bases : List ℕ) (loops : ℕ)
         let v = field-no says x in
         by-statement λ a target source fs e next d i st bs h. absurd (let z : _≡_ {A = ℕ} 0 1 = cc in omega arith)
 
-    module _ (a target : ℕ) (x : m ≡ field.Is a target) (n : Field) (tells : Sources s target t loops a n) where
-      -- the array, the places and the count are the statement's
-      by-source : ((source : ℕ) (fs : List Form) (e : Expr) (next : ℕ) (d : Done) → n ≡ field.Is (count e) source → Stated s target source t loops is a fs e next
-          → Based t bases → Holds t d progress list flags → Walked t next (update t at (take loops is) a fs e d) r list′ flags′) → Runs
-      unfolding Sources
-      by-source f =
-          by-statement λ a1 target1 source fs e next d i st bs h.
-          let v : index (length (t .arrays)) s (at + 1) ≡ got a target = field-got says x in
-          let y : a1 ≡ a = cc in
-          let w : target1 ≡ target = cc in
-          let st1 : Stated s target source t loops is a fs e next = subst (λ (a : ℕ). Stated s target source t loops is a fs e next) y (subst (λ (q : ℕ). Stated s q source t loops is a1 fs e next) w st) in
-          subst (λ (a : ℕ). Walked t next (update t at (take loops is) a fs e d) r list′ flags′) (sym y) (f source fs e next d (tells fs source e next (st1 .target) (st1 .behind)) st1 bs h)
-
-      pub no-source : (k q : ℕ) → n ≡ field.Not k q → Runs
-      no-source k q y = by-source λ source fs e next d v st bs h. absurd (let z : _≡_ {A = ℕ} 0 1 = cc in omega arith)
-
-      module _ (c source : ℕ) (y : n ≡ field.Is c source) (few : progress .updates ≤ 2047) where
-        pub asked-20 : r ≡ walk.No 20 at → 8192 < progress .nodes + c → Runs
-        unfolding update
-        asked-20 q g = by-source λ source1 fs e next d v st bs h.
-            let k = h .updates in
-            let l = h .count in
-            let z : c ≡ count e = cc in
-            rw (q, le-leb (length (d .updates) + 1) 2048 (omega arith), lt-leb (d .nodes + count e) 8192 (omega arith)) (refl, refl)
-
-        pub updated : RunsUpdate s at a target source c t bases loops is progress list flags r list′ flags′ → Runs
-        unfolding RunsUpdate
-        updated u = by-source λ source1 fs e next d v st bs h.
-            let z : c ≡ count e = cc in
-            let w : source1 ≡ source = cc in
-            u fs e next d (subst (λ (q : ℕ). Stated s target q t loops is a fs e next) w st) z bs h
+    pub aimed : (a target : ℕ) → m ≡ field.Is a target → RunsTarget s at a target t bases loops is progress list flags r list′ flags′ → Runs
+    unfolding RunsTarget
+    aimed a target x f =
+        by-statement λ a1 target1 source fs e next d i st bs h.
+        let v : index (length (t .arrays)) s (at + 1) ≡ got a target = field-got says x in
+        let y : a1 ≡ a = cc in
+        let w : target1 ≡ target = cc in
+        let st1 : Stated s target source t loops is a fs e next = subst (λ (a : ℕ). Stated s target source t loops is a fs e next) y (subst (λ (q : ℕ). Stated s q source t loops is a1 fs e next) w st) in
+        subst (λ (a : ℕ). Walked t next (update t at (take loops is) a fs e d) r list′ flags′) (sym y) (f source fs e next d st1 bs h)

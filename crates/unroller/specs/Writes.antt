@@ -154,3 +154,9 @@ unfoldable pub RunsUpdate : List ℕ → ℕ → ℕ → ℕ → ℕ → ℕ →
 RunsUpdate s p a at source n t bases loops is progress list flags r list′ flags′ =
     (fs : List Form) (e : Expr) (next : ℕ) (d : Done) → Stated s at source t loops is a fs e next → n ≡ count e → Based t bases → Holds t d progress list flags
     → Walked t next (update t p (take loops is) a fs e d) r list′ flags′
+
+-- the same, where 19 had a yes
+unfoldable pub RunsTarget : List ℕ → ℕ → ℕ → ℕ → Tables → List ℕ → ℕ → List ℤ → Progress → List ℕ → List ℕ → Walk → List ℕ → List ℕ → Type 0
+RunsTarget s p a at t bases loops is progress list flags r list′ flags′ =
+    (source : ℕ) (fs : List Form) (e : Expr) (next : ℕ) (d : Done) → Stated s at source t loops is a fs e next → Based t bases → Holds t d progress list flags
+    → Walked t next (update t p (take loops is) a fs e d) r list′ flags′

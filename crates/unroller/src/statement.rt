@@ -12,7 +12,7 @@ ghost use Rattle.model.specs.Tables.{arrayAt};
 ghost use Rattle.reader.specs.Entries.{unpacked};
 ghost use Rattle.unroller.specs.Run.{fits32};
 ghost use Rattle.unroller.specs.Walk.{RunsStatement};
-ghost use Rattle.unroller.specs.Writes.{InExtent, Below, Subscript, CellsFrom, WritesRead, WritesLiteral, WritesConstant, WritesLeaf, WritesNode, WritesOperator, WritesArgs, spot, mayRead, recordFine, scanned, Marks, WritesUpdate, Sources, RunsUpdate};
+ghost use Rattle.unroller.specs.Writes.{InExtent, Below, Subscript, CellsFrom, WritesRead, WritesLiteral, WritesConstant, WritesLeaf, WritesNode, WritesOperator, WritesArgs, spot, mayRead, recordFine, scanned, Marks, WritesUpdate, Sources, RunsUpdate, RunsTarget};
 use crate::forms::Valued;
 use crate::forms::value_at;
 use crate::walk::Progress;
@@ -442,6 +442,18 @@ fn source_at(program: &[u8], at: usize, tables: Tables, loops: usize, array: usi
     }
 }
 
+// One update more, with so many nodes.
+fn counted(progress: Progress, nodes: usize) -> Progress
+    requires { ⌜ (progress .updates < 2048) × (progress .nodes + nodes ≤ 8192) ⌝ }
+    ensures { λ r. ⌜ (r .rounds ≡ progress .rounds) × (r .nodes ≡ progress .nodes + nodes) × (r .updates ≡ progress .updates + 1) ⌝ }
+{
+    Progress {
+        rounds: progress.rounds,
+        nodes: progress.nodes + nodes,
+        updates: progress.updates + 1,
+    }
+}
+
 // What is asked and done behind questions 19 and 20 of the statement whose code stands at `at`.
 fn update(
     program: &[u8],
@@ -478,14 +490,7 @@ fn update(
                 return Walk::No(17, at);
             }
             mark(flags, spot_of(tables, array, cell));
-            Walk::On(
-                next,
-                Progress {
-                    rounds: progress.rounds,
-                    nodes: progress.nodes + nodes,
-                    updates: progress.updates + 1,
-                },
-            )
+            Walk::On(next, counted(progress, nodes))
         }
     }
 }
@@ -497,6 +502,46 @@ fn too_many(nodes: usize, more: usize) -> bool
         return true;
     }
     8192 - nodes < more
+}
+
+// The statement whose target is a cell of `array`, by the subscripts at `target`.
+fn assign(
+    program: &[u8],
+    at: usize,
+    array: usize,
+    target: usize,
+    tables: Tables,
+    loops: usize,
+    indices: [i16; 8],
+    progress: Progress,
+    flags: &mut [u8; 2048],
+    list: &mut [u32],
+) -> Walk
+    requires { ⌜ (progress .updates < 2048) × (32768 ≤ length (now list)) ⌝ }
+    ensures { λ r. ⌜ RunsTarget (now (program .entry)) at array target (unpacked «tables») («tables» .bases) loops indices «progress» (now (list .entry)) (now (flags .entry)) r (now (list .exit)) (now (flags .exit)) ⌝ }
+{
+    match source_at(program, target, tables, loops, array) {
+        Field::Not(number, _) => Walk::No(number, at),
+        Field::Is(nodes, source) => {
+            if too_many(progress.nodes, nodes) {
+                return Walk::No(20, at);
+            }
+            update(
+                program,
+                at,
+                array,
+                target,
+                source,
+                nodes,
+                tables,
+                loops,
+                indices,
+                progress,
+                flags,
+                list,
+            )
+        }
+    }
 }
 
 // The statement whose code stands at `at`. Its questions in order: 19, 20, then 16 of all subscripts, last 17.
@@ -515,7 +560,7 @@ pub(crate) fn statement(
     if 2047 < progress.updates {
         return Walk::No(19, at);
     }
-    // Neither can be of a statement that was read and a list that was lent.
+    // A statement that was read has its code in the program, and a list that was lent is long enough.
     if program.len() <= at {
         return Walk::No(3, at);
     }
@@ -524,27 +569,17 @@ pub(crate) fn statement(
     }
     match index_at(program, at + 1, array_count(tables)) {
         Field::Not(number, _) => Walk::No(number, at),
-        Field::Is(array, target) => match source_at(program, target, tables, loops, array) {
-            Field::Not(number, _) => Walk::No(number, at),
-            Field::Is(nodes, source) => {
-                if too_many(progress.nodes, nodes) {
-                    return Walk::No(20, at);
-                }
-                update(
-                    program,
-                    at,
-                    array,
-                    target,
-                    source,
-                    nodes,
-                    tables,
-                    loops,
-                    indices,
-                    progress,
-                    flags,
-                    list,
-                )
-            }
-        },
+        Field::Is(array, target) => assign(
+            program,
+            at,
+            array,
+            target,
+            tables,
+            loops,
+            indices,
+            progress,
+            flags,
+            list,
+        ),
     }
 }

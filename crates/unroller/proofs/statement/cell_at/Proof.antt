@@ -1,11 +1,7 @@
-use borrow.Author.Needs.{needs, sfits-of}
+use borrow.Author.Needs.{needs}
 use native.Mathlib.Omega.{arith}
-use mathlib.Core.Path.{_≡_, refl, sym, ap, _∙_, subst}
-use Prim.Native.Nat.{ℕ, zero, suc, _+_, _-_, _*_, _≤_, _<_}
-use mathlib.Core.List.{List, [], _∷_, _++_}
-use mathlib.Core.Bool.{Bool, true, false}
-use lib.ListN.{length, getD, take, drop, set, length-set}
-use borrow.Author.Tests.{ltb-true, ltb-false, lt-ltb, le-ltb, le-leb, lt-leb, eq-eqb, ne-eqb, eqb-true, eqb-false, not-true, not-false}
+use Prim.Native.Nat.{_-_, _≤_, _<_}
+use lib.ListN.{drop}
 use Rattle.unroller.proofs.Cells.{loop-no, loop-is, loop-end, below-is, most, grows, cell-fits, dimensions-few}
 use Rattle.model.specs.Tables.{arrayAt}
 use Rattle.reader.specs.Entries.{unpacked}

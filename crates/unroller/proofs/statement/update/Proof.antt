@@ -1,11 +1,8 @@
-use borrow.Author.Needs.{needs, sfits-of}
+use borrow.Author.Needs.{needs}
 use native.Mathlib.Omega.{arith}
-use mathlib.Core.Path.{_≡_, refl, sym, ap, _∙_, subst}
-use Prim.Native.Nat.{ℕ, zero, suc, _+_, _-_, _*_, _≤_, _<_}
-use mathlib.Core.List.{List, [], _∷_, _++_}
-use mathlib.Core.Bool.{Bool, true, false}
-use lib.ListN.{length, getD, take, drop, set, length-set}
-use borrow.Author.Tests.{ltb-true, ltb-false, lt-ltb, le-ltb, le-leb, lt-leb, eq-eqb, ne-eqb, eqb-true, eqb-false, not-true, not-false}
+use mathlib.Core.Path.{refl}
+use Prim.Native.Nat.{_+_, _*_}
+use borrow.Author.Tests.{not-true, not-false}
 use Rattle.unroller.proofs.Updating.{run-no, run-unread, run-on}
 use Rattle.unroller.proofs.statement.update.Statement.{statement}
 use Rattle.unroller.proofs.statement.update.Tie as tie
@@ -46,11 +43,8 @@ spot-of-requires c κs = search needs
 mark-requires : tie.Need-mark-requires
 mark-requires c κs = search needs
 
-add-t26 : tie.Need-add-t26
-add-t26 c = search needs
-
-add-t31 : tie.Need-add-t31
-add-t31 c = search needs
+counted-requires : tie.Need-counted-requires
+counted-requires c κs = search needs
 
 same-length-2 : tie.Need-same-length-2
 same-length-2 c = search needs
@@ -62,7 +56,7 @@ same-length-3 : tie.Need-same-length-3
 same-length-3 c = search needs
 
 returns-3 : tie.Need-returns-3
-returns-3 c = let a = c .before .before .before .before .before .before .before .before .before .before .before .before .before .before .before .before .before .before .before .args in run-on _ _ _ _ _ _ _ _ _ _ (a .progress) _ _ (98 + 3 * (a .progress .updates + a .progress .nodes)) refl (c .before .before .before .before .before .before .before .before .before .before .before .before .before .before .before .before .before .before .before .pre .0) (c .before .before .before .before .before .before .before .before .before .before .before .before .before .before .before .before .before .before .before .pre .1) (c .before .before .before .before .before .before .before .before .before .before .before .before .before .before .before .before .before .before .before .pre .2) (λ i. omega (arith, c .before .before .before .before .before .before .before .before .before .before .before .before .before .before .before .before .before .before .shared-slice-known .given i)) (c .before .before .before .before .before .before .before .before .before .before .before .before .before .before .write-update .result) _ (c .before .before .before .before .before .before .before .before .before .before .before .before .before .before .write-update .ensures) _ _ (c .before .before .before .before .before .before .before .before .before .before .cell .given .1) (c .before .before .before .before .before .before .all-written .result) _ (c .before .before .before .before .before .before .all-written .ensures) (not-false _ (c .before .before .before .before .before .if1 .left)) (c .before .before .before .spot-of .result) (c .before .before .before .spot-of .ensures) (c .before .before .mark .ensures)
+returns-3 c = let a = c .before .before .before .before .before .before .before .before .before .before .before .before .before .before .before .before .before .before .args in run-on _ _ _ _ _ _ _ _ _ _ (a .progress) _ _ (98 + 3 * (a .progress .updates + a .progress .nodes)) refl (c .before .before .before .before .before .before .before .before .before .before .before .before .before .before .before .before .before .before .pre .0) (c .before .before .before .before .before .before .before .before .before .before .before .before .before .before .before .before .before .before .pre .1) (c .before .before .before .before .before .before .before .before .before .before .before .before .before .before .before .before .before .before .pre .2) (λ i. omega (arith, c .before .before .before .before .before .before .before .before .before .before .before .before .before .before .before .before .before .shared-slice-known .given i)) (c .before .before .before .before .before .before .before .before .before .before .before .before .before .write-update .result) _ (c .before .before .before .before .before .before .before .before .before .before .before .before .before .write-update .ensures) _ _ (c .before .before .before .before .before .before .before .before .before .cell .given .1) (c .before .before .before .before .before .all-written .result) _ (c .before .before .before .before .before .all-written .ensures) (not-false _ (c .before .before .before .before .if1 .left)) (c .before .before .spot-of .result) (c .before .before .spot-of .ensures) (c .before .mark .ensures) (c .counted .result) (c .counted .ensures)
 
 pub update-spec : {M : Type 1} → statement M
 update-spec =
@@ -80,8 +74,7 @@ update-spec =
     returns
     spot-of-requires
     mark-requires
-    add-t26
-    add-t31
+    counted-requires
     same-length-2
     returns-2
     same-length-3
