@@ -38,11 +38,11 @@ module _ {A : Type 0} (alike : A → A → Bool) (sound : (x y : A) → alike x 
       go true e (inr p) = inr (p .0, rw e (p .1))
       go false e p = inr (k, rw e)
 
-abbrev allLocal : List Array → Bool
+abbrev pub allLocal : List Array → Bool
 allLocal [] = true
 allLocal (x ∷ xs) = local x && allLocal xs
 
-after-local : (xs : List Array) → localsLast true xs ≡ true → allLocal xs ≡ true
+pub after-local : (xs : List Array) → localsLast true xs ≡ true → allLocal xs ≡ true
 after-local [] e = refl
 after-local (x ∷ xs) e =
     let p = and-eq-true-iff (local x) (localsLast (local x) xs) .0 e in
@@ -53,7 +53,7 @@ all-local [] a e = refl
 all-local (x ∷ xs) zero e = eqb-true (x .role) 3 (and-eq-true-iff (local x) (allLocal xs) .0 e .0)
 all-local (x ∷ xs) (suc a) e = all-local xs a (and-eq-true-iff (local x) (allLocal xs) .0 e .1)
 
-non-local-none : (xs : List Array) → allLocal xs ≡ true → nonLocal xs ≡ []
+pub non-local-none : (xs : List Array) → allLocal xs ≡ true → nonLocal xs ≡ []
 non-local-none [] e = refl
 non-local-none (x ∷ xs) e = let p = and-eq-true-iff (local x) (allLocal xs) .0 e in rw (p .0) (non-local-none xs (p .1))
 

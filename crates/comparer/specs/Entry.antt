@@ -25,6 +25,10 @@ decodedReply mask (some l) (some r) = listsReply mask l r
 abbrev pub enough : ℕ → ℕ → ℕ → ℕ → Bool
 enough one other cells terms = leb listWords one && (leb listWords other && (leb cellWords cells && leb termWords terms))
 
+-- the same, of the slices themselves
+abbrev pub enoughLent : List ℕ → List ℕ → List ℕ → List ℕ → Bool
+enoughLent one other cells terms = enough (length one) (length other) (length cells) (length terms)
+
 -- a reply, after 25
 abbrev pub entryReply : Bool → Reply → Reply
 entryReply long reply = if long then reply else refused both 25 0

@@ -6,3 +6,11 @@ pub mod Told
 pub mod Order
 pub mod Rows
 pub mod Claims
+pub mod Answers
+pub mod Matching
+pub mod Writing
+pub mod Headers
+pub mod Asked
+pub mod Laying
+pub mod Work
+pub mod Comparing

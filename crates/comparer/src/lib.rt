@@ -1,1 +1,15 @@
-// Compares two lists or two programs. Its definitions and claims stand in specs/; no code yet.
+// Compares two update lists, or two programs: the reply of paper 01.
+mod compare;
+mod evaluate;
+mod line;
+mod lists;
+mod programs;
+pub mod reply;
+mod tables;
+
+pub use line::Line;
+pub use line::line_of;
+pub use lists::compare_lists;
+pub use programs::compare_input;
+pub use programs::compare_programs;
+pub use programs::compare_programs_masked;

@@ -1,0 +1,208 @@
+-- What `node` and `args` answer.
+use mathlib.Core.Path.{_≡_, refl, sym, ap, _∙_, subst}
+use mathlib.Core.Logic.{⊎-elim}
+use mathlib.Core.Bool.{Bool, true, false}
+use mathlib.Core.List.{List, [], _∷_, _++_, List·Memᴰ·cases-cons, List·Memᴰ·append-cases, List·Memᴰ·not-nil, List·Memᴰ·eq-of-singleton, Memᴰ·append-left, Memᴰ·append-right}
+use mathlib.Core.List.List·Memᴰ.{List·Memᴰ·head, List·Memᴰ·tail}
+use Prim.Native.Nat.{ℕ, zero, suc, _+_, _-_, _≤_, _<_}
+use native.Mathlib.Numerals.{add-one}
+use native.Mathlib.Omega.{arith}
+use lib.ListN.{length, getD, set, replicate, length-set, List·getD-eq-default, getD-replicate}
+use lib.Seq.{getD-set-same, getD-set-other}
+use lib.Dec.{ltb}
+use borrow.Author.Tests.{ltb-true, ltb-false}
+use Rattle.model.specs.Update.{Tree, Trees}
+use Rattle.model.specs.Update.Tree.{cell, number, constant, operator}
+use Rattle.model.specs.Update.Trees.{nil, cons}
+use Rattle.terms.specs.Term.{parts, partsOf}
+use Rattle.terms.specs.Stored.{In, Ref, Args, Means, Stored, Grown, Over, Outcome, full, fine, Puts}
+use Rattle.terms.proofs.Sets.{grown-none, grown-ref, over-more, after-grown, same-set, is-full, is-fine}
+use Rattle.unroller.specs.Stands.{many, TreeAt, TreesAt}
+use Rattle.comparer.specs.Meaning.{Content, valueOf, valuesOf, free}
+use Rattle.comparer.specs.Work.{Operators, Arity, Ready, worked, Works, WorksAll}
+use Rattle.comparer.proofs.Slots.{cells-on, outcome-on}
+
+-- ---- places
+module _ (arities bases list : List ℕ) where
+  pub tree-room : (t : Tree) (left at to : ℕ) → TreeAt arities bases list t left at to → at + 3 ≤ length list
+  unfolding TreeAt
+  tree-room (cell a c) left at to T = T .0 .room
+  tree-room (number z) left at to T = T .0 .room
+  tree-room (constant n) left at to T = T .0 .room
+  tree-room (operator o us) left at to T = T .0 .room
+
+  mutual
+    unfolding TreeAt TreesAt
+
+    pub tree-past : (t : Tree) (left at to : ℕ) → TreeAt arities bases list t left at to → at < to
+    tree-past (cell a c) left at to T = omega (arith, T .2)
+    tree-past (number z) left at to T = omega (arith, T .2)
+    tree-past (constant n) left at to T = omega (arith, T .1)
+    tree-past (operator o us) left at to T = omega (arith, trees-past us (T .4 .0) (at + 3) to (T .4 .2))
+
+    trees-past : (us : Trees) (left at to : ℕ) → TreesAt arities bases list us left at to → at ≤ to
+    trees-past nil left at to T = omega arith
+    trees-past (cons t us) left at to T = omega (arith, tree-past t left at (T .0) (T .1), trees-past us left (T .0) to (T .2))
+
+-- ---- the four ids of a node
+abbrev four : List ℕ → List ℕ
+four ids = getD ids 0 0 ∷ getD ids 1 0 ∷ getD ids 2 0 ∷ getD ids 3 0 ∷ []
+
+four-at : (ids : List ℕ) (j : ℕ) → j < 4 → getD (four ids) j 0 ≡ getD ids j 0
+four-at ids zero l = refl
+four-at ids (suc zero) l = refl
+four-at ids (suc (suc zero)) l = refl
+four-at ids (suc (suc (suc zero))) l = refl
+four-at ids (suc (suc (suc (suc j)))) l = absurd (omega arith)
+
+four-zero : (ids : List ℕ) (j : ℕ) → getD ids j 0 ≡ 0 → getD (four ids) j 0 ≡ 0
+four-zero ids j h = go (ltb j 4) refl
+  where
+    go : (b : Bool) → ltb j 4 ≡ b → getD (four ids) j 0 ≡ 0
+    go true e = four-at ids j (ltb-true j 4 e) ∙ h
+    go false e = List·getD-eq-default (four ids) 0 (ltb-false j 4 e)
+
+abbrev pub none4 : List ℕ
+none4 = replicate 4 0
+
+none4-zero : (j : ℕ) → getD none4 j 0 ≡ 0
+none4-zero j = go (ltb j 4) refl
+  where
+    go : (b : Bool) → ltb j 4 ≡ b → getD none4 j 0 ≡ 0
+    go true w = getD-replicate 4 j 0 0 (ltb-true j 4 w)
+    go false w = List·getD-eq-default none4 0 (ltb-false j 4 w)
+
+args-four : (ts : List Tree) (ids : List ℕ) (us : Trees) (k : ℕ) → many us + k ≤ 4 → Args ts ids k us → Args ts (four ids) k us
+unfolding Args many
+args-four ts ids nil k l h = λ j m. four-zero ids j (h j m)
+args-four ts ids (cons u us) k l h =
+    (subst (λ (r : ℕ). Ref ts r u) (sym (four-at ids k (omega arith))) (h .0), args-four ts ids us (suc k) (omega arith) (h .1))
+
+many-worked : (us : Trees) (h : Content Tree) → many (worked us h) ≡ many us
+unfolding many valuesOf
+many-worked nil h = refl
+many-worked (cons u us) h = ap suc (many-worked us h)
+
+-- a member of a list with v behind, and with v in front
+last-first : (v : Tree) (l : List Tree) (x : Tree) → In x (l ++ (v ∷ [])) → In x (v ∷ l)
+last-first v l x i =
+    ⊎-elim (λ (j : In x l). List·Memᴰ·tail j) (λ (j : In x (v ∷ [])). List·Memᴰ·head (List·Memᴰ·eq-of-singleton j)) (List·Memᴰ·append-cases l i)
+
+first-last : (v : Tree) (l : List Tree) (x : Tree) → In x (v ∷ l) → In x (l ++ (v ∷ []))
+first-last v l x i = ⊎-elim (λ (j : x ≡ v). Memᴰ·append-right l (List·Memᴰ·head j)) (λ (j : In x l). Memᴰ·append-left (v ∷ []) j) (List·Memᴰ·cases-cons i)
+
+-- ---- node
+-- what is said of a value's place and id
+abbrev pub Got : ℕ → ℕ → ℕ → Tree → List Tree → Type 0
+Got at to id v us = (at ≡ to) × Ref us id v
+
+module _ (table list : List ℕ) (left at : ℕ) (cells m : List ℕ) (count : ℕ) where
+  -- no tree stands here
+  pub node-short : length list < at + 3 → (at' count' id : ℕ) (m' : List ℕ) → Works table list left at cells m count at' count' id m'
+  unfolding Works
+  node-short l at' count' id m' arities bases t to ts h O T R = absurd (omega (arith, tree-room arities bases list t left at to T))
+
+  module _ (e : getD list at 0 ≡ 17) where
+    -- an operator stands here: it is enough to show of it what is to be shown
+    by-operator : (at' count' id : ℕ) (m' : List ℕ)
+        → ((arities bases : List ℕ) (o : ℕ) (us : Trees) (to : ℕ) (ts : List Tree) (h : Content Tree) → Operators list arities
+        → TreeAt arities bases list (operator o us) left at to → Ready table bases cells m count ts h
+        → Outcome ts (operator o (worked us h) ∷ partsOf (worked us h)) m' count' (Got at' to id (operator o (worked us h))))
+        → Works table list left at cells m count at' count' id m'
+    unfolding Works TreeAt valueOf parts
+    by-operator at' count' id m' f arities bases (cell a c) to ts h O T R = absurd (omega (arith, T .0 .code))
+    by-operator at' count' id m' f arities bases (number z) to ts h O T R = absurd (omega (arith, T .0 .code))
+    by-operator at' count' id m' f arities bases (constant n) to ts h O T R = absurd (omega (arith, T .0 .code))
+    by-operator at' count' id m' f arities bases (operator o us) to ts h O T R = f arities bases o us to ts h O T R
+
+    pub node-deep : left ≡ 0 → (at' count' id : ℕ) (m' : List ℕ) → Works table list left at cells m count at' count' id m'
+    unfolding TreeAt
+    node-deep l at' count' id m' = by-operator at' count' id m' (λ arities bases o us to ts h O T R. absurd (omega (arith, T .4 .1)))
+
+    module _ (n : ℕ) (q : Arity list (getD list (at + 1) 0) n) (at1 count1 : ℕ) (ids1 m1 : List ℕ)
+        (A : WorksAll table list (left - 1) (at + 3) cells m count 0 n none4 at1 count1 ids1 m1) where
+      abbrev GotAll : ℕ → Trees → List Tree → Type 0
+      GotAll to ws vs = (at1 ≡ to) × ((j : ℕ) → j < 0 → getD ids1 j 0 ≡ getD none4 j 0) × Args vs ids1 0 ws
+
+      args-of : (arities bases : List ℕ) (o : ℕ) (us : Trees) (to : ℕ) (ts : List Tree) (h : Content Tree) → Operators list arities
+          → TreeAt arities bases list (operator o us) left at to → Ready table bases cells m count ts h
+          → Outcome ts (partsOf (worked us h)) m1 count1 (GotAll to (worked us h))
+      unfolding WorksAll TreeAt Arity
+      args-of arities bases o us to ts h O T R =
+          let d : left - 1 ≡ T .4 .0 = omega (arith, T .4 .1) in
+          let l : o < 16 = omega (arith, T .1, O .few) in
+          let p : n ≡ getD list (1 + o) 0 = subst (λ (x : ℕ). x < 16 → n ≡ getD list (1 + x) 0) (T .0 .one) q l in
+          let a : n ≡ many us = p ∙ O .word o l ∙ T .2 in
+          A arities bases us to ts h O (subst (λ (x : ℕ). TreesAt arities bases list us x (at + 3) to) (sym d) (T .4 .2)) (omega arith) (omega (arith, T .3))
+          refl (λ j i. none4-zero j) R
+
+      pub node-full : 4096 < count1 → (at' count' id : ℕ) → 4096 < count' → Works table list left at cells m count at' count' id m1
+      node-full l at' count' id g =
+          by-operator at' count' id m1
+          (λ arities bases o us to ts h O T R.
+          let w = worked us h in
+          full g (over-more ts (partsOf w) (operator o w ∷ partsOf w) (λ x i. List·Memᴰ·tail i)
+          (is-full m1 count1 (GotAll to w) ts (partsOf w) l (args-of arities bases o us to ts h O T R))))
+
+      pub node-put : count1 ≤ 4096 → (count' id : ℕ) (m' : List ℕ) → Puts m1 count1 17 (getD list (at + 1) 0) ids1 count' id m'
+          → Works table list left at cells m count at1 count' id m'
+      unfolding Puts Means TreeAt
+      node-put l count' id m' P =
+          by-operator at1 count' id m'
+          (λ arities bases o us to ts h O T R.
+          let w = worked us h in
+          let v = operator o w in
+          let F = is-fine m1 count1 (GotAll to w) ts (partsOf w) l (args-of arities bases o us to ts h O T R) in
+          outcome-on ts (v ∷ partsOf w) m' count' (λ us. Ref us id v) (Got at1 to id v) (λ us g s. (F .3 .0, s))
+          (same-set m' count' (λ us. Ref us id v) ts (partsOf w ++ (v ∷ [])) (v ∷ partsOf w) (last-first v (partsOf w)) (first-last v (partsOf w))
+          (after-grown m' count' (λ us. Ref us id v) ts (partsOf w) (F .0) (v ∷ []) (F .2)
+          (P (F .0) v (F .1) (refl, T .0 .one, args-four (F .0) ids1 w 0 (omega (arith, many-worked us h, T .3)) (F .3 .2))))))
+
+-- ---- args
+module _ (table list : List ℕ) (left at : ℕ) (cells m : List ℕ) (count k n : ℕ) (ids : List ℕ) where
+  abbrev GotRow : ℕ → List ℕ → ℕ → Trees → List Tree → Type 0
+  GotRow at' ids' to ws vs = (at' ≡ to) × ((j : ℕ) → j < k → getD ids' j 0 ≡ getD ids j 0) × Args vs ids' k ws
+
+  pub all-none : n ≤ k → WorksAll table list left at cells m count k n ids at count ids m
+  unfolding WorksAll TreesAt many valuesOf partsOf Args
+  all-none l arities bases nil to ts h O T c f y z R = fine ts (R .stored) (grown-none ts [] (λ x i. absurd (List·Memᴰ·not-nil i))) (sym T, λ j i. refl, z)
+  all-none l arities bases (cons t us) to ts h O T c f y z R = absurd (omega arith)
+
+  pub all-many : k < n → 4 ≤ k → (at' count' : ℕ) (ids' m' : List ℕ) → WorksAll table list left at cells m count k n ids at' count' ids' m'
+  unfolding WorksAll
+  all-many l g at' count' ids' m' arities bases us to ts h O T c f y z R = absurd (omega arith)
+
+  module _ (l : k < n) (at1 count1 id1 : ℕ) (m1 : List ℕ) (W : Works table list left at cells m count at1 count1 id1 m1) where
+    pub all-full : 4096 < count1 → (at' : ℕ) (ids' : List ℕ) → WorksAll table list left at cells m count k n ids at' 4097 ids' m1
+    unfolding WorksAll TreesAt many valuesOf partsOf Works
+    all-full g at' ids' arities bases nil to ts h O T c f y z R = absurd (omega arith)
+    all-full g at' ids' arities bases (cons t us) to ts h O T c f y z R =
+        let v = valueOf free t h in
+        let w = partsOf (worked us h) in
+        full (omega arith)
+        (over-more ts (parts v) (parts v ++ w) (λ x i. Memᴰ·append-left w i)
+        (is-full m1 count1 (Got at1 (T .0) id1 v) ts (parts v) g (W arities bases t (T .0) ts h O (T .1) R)))
+
+    pub all-step : count1 ≤ 4096 → k < 4 → (at' count' : ℕ) (ids' m' : List ℕ)
+        → WorksAll table list left at1 cells m1 count1 (k + 1) n (set ids k id1) at' count' ids' m'
+        → WorksAll table list left at cells m count k n ids at' count' ids' m'
+    unfolding WorksAll TreesAt many valuesOf partsOf Works Args
+    all-step g i at' count' ids' m' A arities bases nil to ts h O T c f y z R = absurd (omega arith)
+    all-step g i at' count' ids' m' A arities bases (cons t us) to ts h O T c f y z R =
+        let v = valueOf free t h in
+        let w = worked us h in
+        let F = is-fine m1 count1 (Got at1 (T .0) id1 v) ts (parts v) g (W arities bases t (T .0) ts h O (T .1) R) in
+        let R1 : Ready table bases cells m1 count1 (F .0) h = record { slots = R .slots; stored = F .1; holds = cells-on bases cells ts (parts v) (F .0) h (F .2) (R .holds) } in
+        let z1 : (j : ℕ) → k + 1 ≤ j → getD (set ids k id1) j 0 ≡ 0 = λ j q. getD-set-other ids k j id1 0 (omega arith) ∙ z j (omega arith) in
+        let Q : List Tree → Type 0 = λ vs. (at' ≡ to) × ((j : ℕ) → j < k + 1 → getD ids' j 0 ≡ getD (set ids k id1) j 0) × Args vs ids' (k + 1) w in
+        after-grown m' count' (GotRow at' ids' to (cons v w)) ts (parts v) (F .0) (partsOf w) (F .2)
+        (outcome-on (F .0) (partsOf w) m' count' Q (GotRow at' ids' to (cons v w))
+        (λ vs g q. (
+          q .0,
+          λ j i. q .1 j (omega arith) ∙ getD-set-other ids k j id1 0 (omega arith),
+          (
+            subst (λ (r : ℕ). Ref vs r v) (sym (q .1 k (omega arith) ∙ getD-set-same ids k id1 0 (omega arith))) (grown-ref (F .0) (partsOf w) vs g id1 v (F .3 .1)),
+            subst (λ (x : ℕ). Args vs ids' x w) (add-one k) (q .2),
+          ),
+        ))
+        (A arities bases us to (F .0) h O (subst (λ (x : ℕ). TreesAt arities bases list us left x to) (sym (F .3 .0)) (T .2)) (omega arith) f (length-set ids k id1 ∙ y) z1 R1))

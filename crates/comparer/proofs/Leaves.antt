@@ -1,0 +1,75 @@
+-- What `read` and `leaf` answer.
+use mathlib.Core.Path.{_≡_, refl, sym, ap₂, subst, subst₂}
+use mathlib.Core.Logic.{⊎-elim}
+use mathlib.Core.List.{List, [], _∷_}
+use Prim.Native.Nat.{ℕ, _+_, _≤_, _<_}
+use native.Mathlib.Omega.{arith}
+use lib.ListN.{length, getD, replicate}
+use Rattle.model.specs.Update.{Tree, Trees}
+use Rattle.model.specs.Update.Tree.{cell, number, constant, operator}
+use Rattle.terms.specs.Term.{parts}
+use Rattle.terms.specs.Store.{nodeOf}
+use Rattle.terms.specs.Stored.{Ref, Means, Stored, Outcome, fine, Puts}
+use Rattle.terms.proofs.Sets.{closed, grown-none, ref-in}
+use Rattle.unroller.specs.Stands.{Proper, TreeAt}
+use Rattle.comparer.specs.Meaning.{Content, valueOf}
+use Rattle.comparer.specs.Work.{Finds, Shows, Ready, Reads, Works, WorksLeaf}
+use Rattle.comparer.proofs.Slots.{slot-in, slot-is, outcome-on}
+
+module _ (table cells m : List ℕ) (count a c k : ℕ) (f : Finds table a c k) where
+  pub read-out : length cells ≤ k → (count' id : ℕ) (m' : List ℕ) → Reads table cells m count a c count' id m'
+  unfolding Reads
+  read-out l count' id m' bases ts h R p =
+      absurd (omega (arith, slot-in table bases (length cells) (R .slots) a c p, slot-is table bases (length cells) (R .slots) a c k f p))
+
+  -- what the cell shows
+  showing : (bases : List ℕ) (ts : List Tree) (h : Content Tree) → Ready table bases cells m count ts h → Proper bases a c
+      → Shows ts (getD cells k 0) (cell a c) (h a c)
+  showing bases ts h R p =
+      subst (λ (i : ℕ). Shows ts (getD cells i 0) (cell a c) (h a c)) (sym (slot-is table bases (length cells) (R .slots) a c k f p)) (R .holds a c p)
+
+  pub read-written : (getD cells k 0 ≡ 0 → ⊥) → Reads table cells m count a c count (getD cells k 0) m
+  unfolding Reads
+  read-written w bases ts h R p =
+      ⊎-elim (λ (e : (getD cells k 0 ≡ 0) × (h a c ≡ cell a c)). absurd (w (e .0)))
+      (λ (r : Ref ts (getD cells k 0) (h a c)). fine ts (R .stored)
+      (grown-none ts (parts (h a c)) (λ x q. closed (R .stored .nodes) ts (R .stored .known) x (h a c) (ref-in ts (getD cells k 0) (h a c) r) q))
+      r)
+      (showing bases ts h R p)
+
+  pub read-start : getD cells k 0 ≡ 0 → (count' id : ℕ) (m' : List ℕ) → Puts m count 16 a (c ∷ 0 ∷ 0 ∷ 0 ∷ []) count' id m' → Reads table cells m count a c count' id m'
+  unfolding Reads Puts Means parts
+  read-start w count' id m' P bases ts h R p =
+      ⊎-elim (λ (e : (getD cells k 0 ≡ 0) × (h a c ≡ cell a c)).
+      subst (λ (t : Tree). Outcome ts (parts t) m' count' (λ us. Ref us id t)) (sym (e .1)) (P ts (cell a c) (R .stored) refl))
+      (λ (r : Ref ts (getD cells k 0) (h a c)). absurd (omega (arith, r .some)))
+      (showing bases ts h R p)
+
+module _ (table list : List ℕ) (at : ℕ) (cells m : List ℕ) (count count' id : ℕ) (m' : List ℕ) where
+  placed : (to : ℕ) (ts vs : List Tree) (t : Tree) → to ≡ at + 3 → Outcome ts vs m' count' (λ us. Ref us id t) → Outcome ts vs m' count' (λ us. (at + 3 ≡ to) × Ref us id t)
+  placed to ts vs t q = outcome-on ts vs m' count' (λ us. Ref us id t) (λ us. (at + 3 ≡ to) × Ref us id t) (λ us g s. (sym q, s))
+
+  pub leaf-read : getD list at 0 ≡ 16 → Reads table cells m count (getD list (at + 1) 0) (getD list (at + 2) 0) count' id m'
+      → WorksLeaf table list at cells m count (at + 3) count' id m'
+  unfolding WorksLeaf Works Reads TreeAt valueOf
+  leaf-read e r left w arities bases (cell a c) to ts h O T R =
+      placed to ts (parts (h a c)) (h a c) (T .2)
+      (subst₂ (λ (x y : ℕ). Reads table cells m count x y count' id m') (T .0 .one) (T .0 .two) r bases ts h R (T .1))
+  leaf-read e r left w arities bases (number z) to ts h O T R = absurd (omega (arith, T .0 .code))
+  leaf-read e r left w arities bases (constant n) to ts h O T R = absurd (omega (arith, T .0 .code))
+  leaf-read e r left w arities bases (operator o us) to ts h O T R = absurd (omega (arith, T .0 .code))
+
+  pub leaf-put : (getD list at 0 ≡ 16 → ⊥) → Puts m count (getD list at 0) (getD list (at + 1) 0) (replicate 4 0) count' id m'
+      → WorksLeaf table list at cells m count (at + 3) count' id m'
+  unfolding WorksLeaf Works Puts TreeAt valueOf parts Means
+  leaf-put e P left w arities bases (cell a c) to ts h O T R = absurd (e (T .0 .code))
+  leaf-put e P left w arities bases (number z) to ts h O T R =
+      placed to ts (number z ∷ []) (number z) (T .2) (P ts (number z) (R .stored) (T .1, ap₂ (λ (x y : ℕ). nodeOf x y (replicate 4 0)) (T .0 .code) (T .0 .one)))
+  leaf-put e P left w arities bases (constant n) to ts h O T R =
+      placed to ts (constant n ∷ []) (constant n) (T .1) (P ts (constant n) (R .stored) (ap₂ (λ (x y : ℕ). nodeOf x y (replicate 4 0)) (T .0 .code) (T .0 .one)))
+  leaf-put e P left w arities bases (operator o us) to ts h O T R = absurd (w (T .0 .code))
+
+pub node-leaf : (table list : List ℕ) (left at : ℕ) (cells m : List ℕ) (count at' count' id : ℕ) (m' : List ℕ) → (getD list at 0 ≡ 17 → ⊥)
+    → WorksLeaf table list at cells m count at' count' id m' → Works table list left at cells m count at' count' id m'
+unfolding WorksLeaf
+node-leaf table list left at cells m count at' count' id m' w W = W left w

@@ -1,0 +1,76 @@
+-- Cells and their slots; what holds goes on holding as the store grows.
+use mathlib.Core.Path.{_≡_, refl, ap, _∙_}
+use mathlib.Core.Logic.{_⊎_, inl, inr, ⊎-elim}
+use mathlib.Core.Bool.{Bool, true, false}
+use mathlib.Core.List.{List}
+use Prim.Native.Nat.{ℕ, _+_, _≤_, _<_}
+use native.Mathlib.Omega.{arith}
+use lib.ListN.{length, getD}
+use lib.Dec.{ltb}
+use borrow.Author.Tests.{ltb-true, ltb-false}
+use Rattle.model.specs.Update.{Tree}
+use Rattle.model.specs.Update.Tree.{cell}
+use Rattle.terms.specs.Stored.{Ref, Stored, Grown, Over, Outcome, full, fine}
+use Rattle.terms.proofs.Sets.{grown-ref}
+use Rattle.unroller.specs.Stands.{Proper}
+use Rattle.comparer.specs.Meaning.{Content}
+use Rattle.comparer.specs.Work.{Table, slotOf, Finds, Arity, Shows, CellsHold}
+
+-- ---- what `slot` and `arity` answer, where k is their number as an index
+module _ (table : List ℕ) (a c k : ℕ) (e : k ≡ a) where
+  pub finds-none : 17 ≤ k → (r : ℕ) → Finds table a c r
+  unfolding Finds
+  finds-none l r h i = absurd (omega arith)
+
+  pub finds-far : 4096 < getD table k 0 → (r : ℕ) → Finds table a c r
+  unfolding Finds
+  finds-far l r h i = let w : getD table k 0 ≡ getD table a 0 = ap (λ (x : ℕ). getD table x 0) e in absurd (omega arith)
+
+  pub finds-at : (d : ℕ) → d ≡ c → Finds table a c (getD table k 0 + d)
+  unfolding Finds
+  finds-at d f h i = let w : getD table k 0 ≡ getD table a 0 = ap (λ (x : ℕ). getD table x 0) e in omega arith
+
+module _ (list : List ℕ) (o k : ℕ) (e : k ≡ o) where
+  pub arity-none : 16 ≤ k → (n : ℕ) → Arity list o n
+  unfolding Arity
+  arity-none l n h = absurd (omega arith)
+
+  pub arity-at : (n : ℕ) → n ≡ getD list (1 + k) 0 → Arity list o n
+  unfolding Arity
+  arity-at n f h = f ∙ ap (λ (x : ℕ). getD list (1 + x) 0) e
+
+-- ---- slots
+
+module _ (table bases : List ℕ) (room : ℕ) (t : Table table bases room) where
+  pub slot-in : (a c : ℕ) → Proper bases a c → slotOf bases a c < room
+  slot-in a c p = omega (arith, t .fits (a + 1) (p .array), p .inside)
+
+  pub slot-is : (a c k : ℕ) → Finds table a c k → Proper bases a c → k ≡ slotOf bases a c
+  unfolding Finds
+  slot-is a c k f p =
+      let l : a < length bases = omega (arith, p .array) in
+      let w = t .word a l in
+      omega (arith, f (omega (arith, t .short)) (omega (arith, t .fits a l, t .few)))
+
+  -- different cells have different slots
+  pub slot-apart : (a c b d : ℕ) → Proper bases a c → Proper bases b d → slotOf bases a c ≡ slotOf bases b d → (a ≡ b) × (c ≡ d)
+  slot-apart a c b d p q e = go (ltb a b) refl (ltb b a) refl
+    where
+      same : a ≡ b → (a ≡ b) × (c ≡ d)
+      same s = let f : getD bases a 0 ≡ getD bases b 0 = ap (λ (i : ℕ). getD bases i 0) s in (s, omega (arith, e))
+
+      go : (x : Bool) → ltb a b ≡ x → (y : Bool) → ltb b a ≡ y → (a ≡ b) × (c ≡ d)
+      go true l y m = absurd (omega (arith, t .sorted (a + 1) b (omega (arith, ltb-true a b l)) (omega (arith, q .array)), p .inside, e))
+      go false l true m = absurd (omega (arith, t .sorted (b + 1) a (omega (arith, ltb-true b a m)) (omega (arith, p .array)), q .inside, e))
+      go false l false m = same (omega (arith, ltb-false a b l, ltb-false b a m))
+
+pub cells-on : (bases cells : List ℕ) (ts vs us : List Tree) (h : Content Tree) → Grown ts vs us → CellsHold bases cells ts h → CellsHold bases cells us h
+cells-on bases cells ts vs us h g H a c p =
+    ⊎-elim (λ (w : (getD cells (slotOf bases a c) 0 ≡ 0) × (h a c ≡ cell a c)). inl w)
+    (λ (w : Ref ts (getD cells (slotOf bases a c) 0) (h a c)). inr (grown-ref ts vs us g (getD cells (slotOf bases a c) 0) (h a c) w))
+    (H a c p)
+
+module _ (ts vs : List Tree) (m : List ℕ) (count : ℕ) (P : List Tree → Type 0) where
+  pub outcome-on : (Q : List Tree → Type 0) → ((us : List Tree) → Grown ts vs us → P us → Q us) → Outcome ts vs m count P → Outcome ts vs m count Q
+  outcome-on Q f (full l o) = full l o
+  outcome-on Q f (fine us s g p) = fine us s g (f us g p)

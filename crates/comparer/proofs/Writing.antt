@@ -1,0 +1,145 @@
+-- Writing a line: one byte, a text, a number.
+use Prim.Native.Nat.{ℕ, zero, suc, _+_, _-_, _*_, _/_, _%_, _≤_, _<_}
+use native.Mathlib.Omega.{arith}
+use native.Mathlib.Numerals.{add-one}
+use mathlib.Core.Path.{_≡_, refl, sym, ap, _∙_, subst}
+use mathlib.Core.List.{List, [], _∷_, _++_, append-nil, append-assoc}
+use mathlib.Core.Bool.{Bool, true, false}
+use lib.ListN.{length, getD, take, set, replicate, length-append}
+use lib.Seq.{set-append-seam, take-append-seam, take-suc, take-length}
+use lib.Dec.{ltb}
+use borrow.Author.Tests.{lt-ltb, le-ltb}
+use Rattle.model.specs.Reply.{Reply, equal, differs, refused, Side, left, right, both, input}
+use Rattle.unroller.specs.Layout.{padded}
+use Rattle.comparer.specs.Line.{digits, decimal, sideText, spaced, lineOf}
+use Rattle.comparer.specs.Writing.{Holds, Adds, tens, AddsNumber, Begins}
+use Rattle.comparer.specs.declared.line.Line.{Line}
+
+padded-put : (t : List ℕ) (b : ℕ) → length t < 64 → set (padded 64 t) (length t) b ≡ padded 64 (t ++ (b ∷ []))
+padded-put t b h =
+    let m : ℕ = 63 - length t in
+    let e : 64 - length t ≡ suc m = omega arith in
+    let l = length-append t (b ∷ []) in
+    let f : 64 - length (t ++ (b ∷ [])) ≡ m = omega arith in
+    rw (e, f, set-append-seam t 0 (replicate m 0) b) (sym (append-assoc t (b ∷ []) (replicate m 0)))
+
+module _ (line : Line) (b : ℕ) where
+  pub put-adds : (r : Line) → r .bytes ≡ set (line .bytes) (line .len) b → r .len ≡ line .len + 1 → line .len < 64 → Adds line (b ∷ []) r
+  unfolding Adds
+  put-adds r p q l t h k =
+      let e = length-append t (b ∷ []) in
+      let n = h .len in
+      record {
+        bytes = p ∙ rw (h .bytes, n) (padded-put t b (omega arith));
+        len = omega arith;
+        room = omega arith;
+      }
+
+  pub put-full : 64 ≤ line .len → Adds line (b ∷ []) line
+  unfolding Adds
+  put-full l t h k = let n = h .len in absurd (omega arith)
+
+pub adds-none : (line : Line) → Adds line [] line
+unfolding Adds
+adds-none line t h k = rw append-nil h
+
+pub adds-more : (line mid r : Line) (xs ys : List ℕ) → Adds line xs mid → Adds mid ys r → Adds line (xs ++ ys) r
+unfolding Adds
+adds-more line mid r xs ys a b t h k =
+    let e = length-append xs ys in
+    let f = length-append t xs in
+    rw append-assoc at (b (t ++ xs) (a t h (omega arith)) (omega arith))
+
+module _ (line : Line) (s : List ℕ) where
+  pub text-more : (mid r : Line) (i : ℕ) → i < length s → Adds line (take i s) mid → Adds mid (getD s i 0 ∷ []) r → Adds line (take (i + 1) s) r
+  text-more mid r i h a b = rw (add-one, take-suc s i 0 h) (adds-more line mid r (take i s) (getD s i 0 ∷ []) a b)
+
+  pub text-all : (r : Line) (i : ℕ) → i ≤ length s → length s ≤ i → Adds line (take i s) r → Adds line s r
+  text-all r i h k a = let e : i ≡ length s = omega arith in rw (e, take-length) at a
+
+-- one digit
+pub number-last : (line r : Line) (n : ℕ) → n < 10 → Adds line ((48 + n) ∷ []) r → AddsNumber line n r
+unfolding AddsNumber
+number-last line r n h a k l = rw (digits, lt-ltb n 10 h) a
+
+-- all digits but the last, then the last
+pub number-more : (line mid r : Line) (n : ℕ) → 10 ≤ n → AddsNumber line (n / 10) mid → Adds mid ((48 + n % 10) ∷ []) r → AddsNumber line n r
+unfolding AddsNumber
+number-more line mid r n h a b zero l = absurd (omega arith)
+number-more line mid r n h a b (suc k) l = rw (digits, le-ltb n 10 h) (adds-more line mid r (digits (suc k) (n / 10)) ((48 + n % 10) ∷ []) (a k (omega arith)) b)
+
+pub spaced-adds : (line mid r : Line) (n : ℕ) → n < 18446744073709551616 → Adds line (0x20 ∷ []) mid → AddsNumber mid n r → Adds line (spaced (decimal n)) r
+unfolding AddsNumber
+spaced-adds line mid r n h a b = adds-more line mid r (0x20 ∷ []) (decimal n) a (b 19 (omega arith))
+
+-- the parts of a line
+digits-length : (k n : ℕ) → length (digits k n) ≤ k
+digits-length zero n = omega arith
+digits-length (suc k) n = by (ltb n 10) refl (digits-length k (n / 10))
+  where
+    by : (b : Bool) → ltb n 10 ≡ b → length (digits k (n / 10)) ≤ k → length (digits (suc k) n) ≤ suc k
+    by true e m = rw (digits, e) (omega arith)
+    by false e m =
+        let l = length-append (digits k (n / 10)) ((48 + n % 10) ∷ []) in
+        rw (digits, e) (omega arith)
+
+side-length : (s : Side) → length (sideText s) ≤ 5
+side-length left = omega arith
+side-length right = omega arith
+side-length both = omega arith
+side-length input = omega arith
+
+abbrev lastly : List ℕ → List ℕ
+lastly text = text ++ (0x0A ∷ [])
+
+begins : (empty r : Line) (text whole : List ℕ) → Holds empty [] → Adds empty text r → length text < 64 → lastly text ≡ whole → Begins r whole
+unfolding Adds Begins
+begins empty r text whole h a l e = (text, a [] h (omega arith), l, e)
+
+abbrev equalText : List ℕ
+equalText = 0x65 ∷ 0x71 ∷ 0x75 ∷ 0x61 ∷ 0x6C ∷ []
+
+abbrev differsText : List ℕ
+differsText = 0x64 ∷ 0x69 ∷ 0x66 ∷ 0x66 ∷ 0x65 ∷ 0x72 ∷ 0x73 ∷ []
+
+abbrev refusedText : List ℕ
+refusedText = 0x72 ∷ 0x65 ∷ 0x66 ∷ 0x75 ∷ 0x73 ∷ 0x65 ∷ 0x64 ∷ []
+
+module _ (empty : Line) (none : Holds empty []) where
+  pub equal-begins : (x r : Line) (n : ℕ) → Adds empty equalText x → Adds x (spaced (decimal n)) r → Begins r (lineOf (equal n))
+  unfolding lineOf
+  equal-begins x r n a b =
+      let l = digits-length 20 n in
+      begins empty r (equalText ++ spaced (decimal n)) _ none (adds-more empty x r equalText (spaced (decimal n)) a b) (omega arith) refl
+
+  pub differs-begins : (x y r : Line) (n m : ℕ) → Adds empty differsText x → Adds x (spaced (decimal n)) y → Adds y (spaced (decimal m)) r → Begins r (lineOf (differs n m))
+  unfolding lineOf
+  differs-begins x y r n m a b d =
+      let l = digits-length 20 n in
+      let k = digits-length 20 m in
+      let e = length-append (decimal n) (spaced (decimal m)) in
+      begins empty r (differsText ++ (spaced (decimal n) ++ spaced (decimal m))) _ none
+      (adds-more empty x r differsText (spaced (decimal n) ++ spaced (decimal m)) a (adds-more x y r (spaced (decimal n)) (spaced (decimal m)) b d))
+      (omega arith) (simp append-assoc)
+
+  pub refused-begins : (x y z r : Line) (s : Side) (n m : ℕ) → Adds empty refusedText x → Adds x (spaced (sideText s)) y → Adds y (spaced (decimal n)) z → Adds z (spaced (decimal m)) r
+      → Begins r (lineOf (refused s n m))
+  unfolding lineOf
+  refused-begins x y z r s n m a b d f =
+      let l = digits-length 20 n in
+      let k = digits-length 20 m in
+      let j = side-length s in
+      let e = length-append (decimal n) (spaced (decimal m)) in
+      let g = length-append (sideText s) (spaced (decimal n) ++ spaced (decimal m)) in
+      begins empty r (refusedText ++ (spaced (sideText s) ++ (spaced (decimal n) ++ spaced (decimal m)))) _ none
+      (adds-more empty x r refusedText (spaced (sideText s) ++ (spaced (decimal n) ++ spaced (decimal m))) a
+      (adds-more x y r (spaced (sideText s)) (spaced (decimal n) ++ spaced (decimal m)) b (adds-more y z r (spaced (decimal n)) (spaced (decimal m)) d f)))
+      (omega arith) (simp append-assoc)
+
+pub line-ends : (x r : Line) (whole : List ℕ) → Begins x whole → Adds x (0x0A ∷ []) r → Holds r whole
+unfolding Begins Adds
+line-ends x r whole (text, h, l, e) a = rw e at (a text h (omega arith))
+
+-- the text is what stands before the line's length
+pub line-text : (line : Line) (text : List ℕ) → Holds line text → take (line .len) (line .bytes) ≡ text
+line-text line text h = rw (h .bytes, h .len) (take-append-seam text (replicate (64 - length text) 0))

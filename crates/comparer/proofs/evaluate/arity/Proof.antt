@@ -1,0 +1,40 @@
+use Rattle.comparer.proofs.Slots.{arity-none, arity-at}
+use borrow.Author.Needs.{needs}
+use Rattle.comparer.proofs.evaluate.arity.Statement.{statement}
+use Rattle.comparer.proofs.evaluate.arity.Tie as tie
+use Rattle.comparer.proofs.evaluate.arity.Reads as reads
+use Rattle.comparer.proofs.evaluate.arity.Lts as lts
+use Rattle.comparer.proofs.evaluate.wide.Reads as wide-reads
+
+wide-requires : tie.Need-wide-requires
+wide-requires c κs = search needs
+
+returns : tie.Need-returns
+returns c = arity-none _ _ _ (c .before .wide .ensures) (c .if1 .taken) _
+
+add-wide : tie.Need-add-wide
+add-wide c = search needs
+
+mul-wide : tie.Need-mul-wide
+mul-wide c = search needs
+
+shared-slice-read-wide : tie.Need-shared-slice-read-wide
+shared-slice-read-wide c = search needs
+
+wide-requires-2 : tie.Need-wide-requires-2
+wide-requires-2 c κs = search needs
+
+returns-2 : tie.Need-returns-2
+returns-2 c = arity-at _ _ _ (c .before .before .before .wide .ensures) _ (c .wide2 .ensures)
+
+pub arity-spec : {M : Type 1} → statement M
+arity-spec =
+    tie.close
+    (tie.spec
+    wide-requires
+    returns
+    add-wide
+    mul-wide
+    shared-slice-read-wide
+    wide-requires-2
+    returns-2)

@@ -1,0 +1,45 @@
+use borrow.Author.Needs.{needs}
+use mathlib.Core.Path.{sym, _∙_}
+use borrow.Author.Tests.{not-true, not-false}
+use lib.ListN.{length}
+use Rattle.comparer.specs.Entry.{enough}
+use Rattle.comparer.proofs.ListEntries.{words-short, words-long, work-kept, work-cleared}
+use Rattle.comparer.proofs.lists.compare_lists.Statement.{statement}
+use Rattle.comparer.proofs.lists.compare_lists.Tie as tie
+
+long-enough-requires : tie.Need-long-enough-requires
+long-enough-requires c κs = search needs
+
+returns : tie.Need-returns
+returns c = (words-short (c .before .before .before .before .before .before .args .mask) (c .before .before .before .before .before .before .args .left .now) (c .before .before .before .before .before .before .args .right .now) (length (c .before .before .before .before .before .before .args .cells .now)) (length (c .before .before .before .before .before .before .args .terms .now)) (sym (c .before .long-enough .ensures) ∙ not-true _ (c .if1 .taken)), (work-kept _ _ (sym (c .before .long-enough .ensures) ∙ not-true _ (c .if1 .taken)), work-kept _ _ (sym (c .before .long-enough .ensures) ∙ not-true _ (c .if1 .taken))))
+
+checked-requires : tie.Need-checked-requires
+checked-requires c κs = (sym (c .before .before .before .long-enough .ensures) ∙ not-false _ (c .before .before .if1 .left))
+
+clear-requires : tie.Need-clear-requires
+clear-requires c κs = search needs
+
+clear-requires-2 : tie.Need-clear-requires-2
+clear-requires-2 c κs = search needs
+
+same-length : tie.Need-same-length
+same-length c = search needs
+
+same-length-2 : tie.Need-same-length-2
+same-length-2 c = search needs
+
+returns-2 : tie.Need-returns-2
+returns-2 c = (words-long (c .before .before .before .before .before .before .before .before .before .before .before .before .before .before .before .before .before .before .before .before .before .args .mask) (c .before .before .before .before .before .before .before .before .before .before .before .before .before .before .before .before .before .before .before .before .before .args .left .now) (c .before .before .before .before .before .before .before .before .before .before .before .before .before .before .before .before .before .before .before .before .before .args .right .now) (length (c .before .before .before .before .before .before .before .before .before .before .before .before .before .before .before .before .before .before .before .before .before .args .cells .now)) (length (c .before .before .before .before .before .before .before .before .before .before .before .before .before .before .before .before .before .before .before .before .before .args .terms .now)) _ (sym (c .before .before .before .before .before .before .before .before .before .before .before .before .before .before .before .before .long-enough .ensures) ∙ not-false _ (c .before .before .before .before .before .before .before .before .before .before .before .before .before .before .before .if1 .left)) (c .before .before .before .before .before .before .before .before .before .before .before .before .checked .ensures), (work-cleared (enough (length (c .before .before .before .before .before .before .before .before .before .before .before .before .before .before .before .before .before .before .before .before .before .args .left .now)) (length (c .before .before .before .before .before .before .before .before .before .before .before .before .before .before .before .before .before .before .before .before .before .args .right .now)) (length (c .before .before .before .before .before .before .before .before .before .before .before .before .before .before .before .before .before .before .before .before .before .args .cells .now)) (length (c .before .before .before .before .before .before .before .before .before .before .before .before .before .before .before .before .before .before .before .before .before .args .terms .now))) (c .before .before .before .before .before .before .before .before .before .before .before .before .before .before .before .before .before .before .before .before .before .args .cells .now) (c .before .before .before .before .before .before .before .before .before .before .before .before .checked .last .1 .1 .1 .0) (c .before .before .before .before .before .before .clear .last .0) (sym (c .before .before .before .before .before .before .before .before .before .before .before .before .before .before .before .before .long-enough .ensures) ∙ not-false _ (c .before .before .before .before .before .before .before .before .before .before .before .before .before .before .before .if1 .left)) (c .before .before .before .before .before .before .before .before .before .before .before .before .checked .kept .1 .1 .1 .0) (c .before .before .before .before .before .before .clear .ensures), work-cleared (enough (length (c .before .before .before .before .before .before .before .before .before .before .before .before .before .before .before .before .before .before .before .before .before .args .left .now)) (length (c .before .before .before .before .before .before .before .before .before .before .before .before .before .before .before .before .before .before .before .before .before .args .right .now)) (length (c .before .before .before .before .before .before .before .before .before .before .before .before .before .before .before .before .before .before .before .before .before .args .cells .now)) (length (c .before .before .before .before .before .before .before .before .before .before .before .before .before .before .before .before .before .before .before .before .before .args .terms .now))) (c .before .before .before .before .before .before .before .before .before .before .before .before .before .before .before .before .before .before .before .before .before .args .terms .now) (c .before .before .before .before .before .before .before .before .before .before .before .before .checked .last .1 .1 .1 .1 .0) (c .before .before .clear2 .last .0) (sym (c .before .before .before .before .before .before .before .before .before .before .before .before .before .before .before .before .long-enough .ensures) ∙ not-false _ (c .before .before .before .before .before .before .before .before .before .before .before .before .before .before .before .if1 .left)) (c .before .before .before .before .before .before .before .before .before .before .before .before .checked .kept .1 .1 .1 .1 .0) (c .before .before .clear2 .ensures)))
+
+pub compare-lists-spec : {M : Type 1} → statement M
+compare-lists-spec =
+    tie.close
+    (tie.spec
+    long-enough-requires
+    returns
+    checked-requires
+    clear-requires
+    clear-requires-2
+    same-length
+    same-length-2
+    returns-2)

@@ -1,0 +1,32 @@
+use borrow.Author.Needs.{needs}
+use Rattle.comparer.proofs.programs.compare_programs.Statement.{statement}
+use Rattle.comparer.proofs.programs.compare_programs.Tie as tie
+
+compare-programs-masked-requires : tie.Need-compare-programs-masked-requires
+compare-programs-masked-requires c κs = search needs
+
+same-length : tie.Need-same-length
+same-length c = search needs
+
+same-length-2 : tie.Need-same-length-2
+same-length-2 c = search needs
+
+same-length-3 : tie.Need-same-length-3
+same-length-3 c = search needs
+
+same-length-4 : tie.Need-same-length-4
+same-length-4 c = search needs
+
+returns : tie.Need-returns
+returns c = c .before .before .before .before .before .before .before .before .compare-programs-masked .ensures
+
+pub compare-programs-spec : {M : Type 1} → statement M
+compare-programs-spec =
+    tie.close
+    (tie.spec
+    compare-programs-masked-requires
+    same-length
+    same-length-2
+    same-length-3
+    same-length-4
+    returns)

@@ -1,0 +1,100 @@
+use borrow.Author.Needs.{needs}
+use native.Mathlib.Omega.{arith}
+use Prim.Native.Nat.{ℕ, _+_, _*_}
+use mathlib.Core.Path.{ap₂}
+use Rattle.comparer.proofs.ProgramEntries.{unframed, framed-long, framed-short, framed-whole}
+use Rattle.comparer.proofs.programs.framed_reply.Statement.{statement}
+use Rattle.comparer.proofs.programs.framed_reply.Tie as tie
+
+returns : tie.Need-returns
+returns c = unframed (c .before .before .before .before .before .before .args .input .now) (c .if1 .taken)
+
+shared-slice-read-wide : tie.Need-shared-slice-read-wide
+shared-slice-read-wide c = search needs
+
+wide-requires : tie.Need-wide-requires
+wide-requires c κs = search needs
+
+shared-slice-read-wide-2 : tie.Need-shared-slice-read-wide-2
+shared-slice-read-wide-2 c = search needs
+
+wide-requires-2 : tie.Need-wide-requires-2
+wide-requires-2 c κs = search needs
+
+mul-n : tie.Need-mul-n
+mul-n c = omega (arith, c .before .before .before .before .before .before .before .before .before .shared-slice-known .given 0, c .before .before .before .before .before .before .before .before .before .shared-slice-known .given 1, c .before .before .wide .ensures, c .wide2 .ensures)
+
+add-n : tie.Need-add-n
+add-n c = omega (arith, c .before .before .before .before .before .before .before .before .before .shared-slice-known .given 0, c .before .before .before .before .before .before .before .before .before .shared-slice-known .given 1, c .before .before .wide .ensures, c .wide2 .ensures)
+
+returns-2 : tie.Need-returns-2
+returns-2 c = framed-long (c .before .before .before .before .before .before .before .before .before .before .before .args .input .now) (c .before .before .before .wide .result + 256 * c .before .wide2 .result) (ap₂ (λ (x y : ℕ). x + 256 * y) (c .before .before .before .wide .ensures) (c .before .wide2 .ensures)) (c .before .before .before .before .before .if1 .left) (c .if2 .taken)
+
+add-end : tie.Need-add-end
+add-end c = search needs
+
+returns-3 : tie.Need-returns-3
+returns-3 c = framed-short (c .before .before .before .before .before .before .before .before .before .before .before .before .args .input .now) (c .before .before .before .before .wide .result + 256 * c .before .before .wide2 .result) (ap₂ (λ (x y : ℕ). x + 256 * y) (c .before .before .before .before .wide .ensures) (c .before .before .wide2 .ensures)) (c .before .before .before .before .before .before .if1 .left) (c .before .if2 .left) (c .if3 .taken)
+
+sub-unrolled-reply : tie.Need-sub-unrolled-reply
+sub-unrolled-reply c = search needs
+
+part-unrolled-reply-start : tie.Need-part-unrolled-reply-start
+part-unrolled-reply-start c = search needs
+
+part-unrolled-reply-end : tie.Need-part-unrolled-reply-end
+part-unrolled-reply-end c = search needs
+
+sub-unrolled-reply-2 : tie.Need-sub-unrolled-reply-2
+sub-unrolled-reply-2 c = search needs
+
+part-unrolled-reply-start-2 : tie.Need-part-unrolled-reply-start-2
+part-unrolled-reply-start-2 c = search needs
+
+part-unrolled-reply-end-2 : tie.Need-part-unrolled-reply-end-2
+part-unrolled-reply-end-2 c = search needs
+
+unrolled-reply-requires : tie.Need-unrolled-reply-requires
+unrolled-reply-requires c κs = search needs
+
+same-length : tie.Need-same-length
+same-length c = search needs
+
+same-length-2 : tie.Need-same-length-2
+same-length-2 c = search needs
+
+same-length-3 : tie.Need-same-length-3
+same-length-3 c = search needs
+
+same-length-4 : tie.Need-same-length-4
+same-length-4 c = search needs
+
+returns-4 : tie.Need-returns-4
+returns-4 c = framed-whole (c .before .before .before .before .before .before .before .before .before .before .before .before .before .before .before .before .before .before .before .before .before .before .before .before .before .before .before .args .input .now) (c .before .before .before .before .before .before .before .before .before .before .before .before .before .before .before .before .before .before .before .wide .result + 256 * c .before .before .before .before .before .before .before .before .before .before .before .before .before .before .before .before .before .wide2 .result) (ap₂ (λ (x y : ℕ). x + 256 * y) (c .before .before .before .before .before .before .before .before .before .before .before .before .before .before .before .before .before .before .before .wide .ensures) (c .before .before .before .before .before .before .before .before .before .before .before .before .before .before .before .before .before .wide2 .ensures)) (c .before .before .before .before .before .before .before .before .before .before .before .before .before .before .before .before .before .before .before .before .before .if1 .left) _ (c .before .before .before .before .before .before .before .before .before .before .before .before .before .before .before .before .if2 .left) (c .before .before .before .before .before .before .before .before .before .before .before .before .before .before .before .if3 .left) (c .before .before .before .before .before .before .before .before .unrolled-reply .ensures)
+
+pub framed-reply-spec : {M : Type 1} → statement M
+framed-reply-spec =
+    tie.close
+    (tie.spec
+    returns
+    shared-slice-read-wide
+    wide-requires
+    shared-slice-read-wide-2
+    wide-requires-2
+    mul-n
+    add-n
+    returns-2
+    add-end
+    returns-3
+    sub-unrolled-reply
+    part-unrolled-reply-start
+    part-unrolled-reply-end
+    sub-unrolled-reply-2
+    part-unrolled-reply-start-2
+    part-unrolled-reply-end-2
+    unrolled-reply-requires
+    same-length
+    same-length-2
+    same-length-3
+    same-length-4
+    returns-4)

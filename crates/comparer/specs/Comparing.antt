@@ -1,0 +1,79 @@
+-- What each function of the comparison answers.
+use Prim.Native.Nat.{ℕ, _+_, _-_, _*_, _≤_, _<_}
+use mathlib.Core.Path.{_≡_}
+use mathlib.Core.List.{List}
+use mathlib.Core.Bool.{Bool, true, false, _&&_, _||_, cond}
+use lib.ListN.{length, getD, drop}
+use lib.Dec.{eqb, ltb, leb}
+use Rattle.model.specs.Tables.{Tables, cells, arrayAt}
+use Rattle.model.specs.Update.{Tree}
+use Rattle.model.specs.Update.Tree.{cell}
+use Rattle.model.specs.Reply as model
+use Rattle.terms.specs.Term.{same}
+use Rattle.terms.specs.Stored.{Stored}
+use Rattle.unroller.specs.Allowed.{allowedTables}
+use Rattle.unroller.specs.Stands.{HeaderAt}
+use Rattle.comparer.specs.Meaning.{Content}
+use Rattle.comparer.specs.Match.{bit, compared, comparedSize, firstCell, firstDifference}
+use Rattle.comparer.specs.Answers.{replySays}
+use Rattle.comparer.specs.Work.{Shows}
+use Rattle.comparer.specs.declared.reply.Reply.{Reply}
+
+-- ---- header words
+-- the words of array a begin here
+abbrev pub record-at : ℕ → ℕ
+record-at a = 18 + 5 * a
+
+-- array a is compared, by its role's word
+unfoldable pub comparedAt : List ℕ → ℕ → ℕ → Bool
+comparedAt list mask a = (eqb (getD list (record-at a) 0) 1 || eqb (getD list (record-at a) 0) 2) && bit mask a
+
+-- a factor of an array's size: an extent that is used, or 1
+unfoldable pub factorOf : Bool → ℕ → ℕ
+factorOf used x = cond used (cond (leb x 1024) x 0) 1
+
+-- the size of array a, by its words
+unfoldable pub sizeAt : List ℕ → ℕ → ℕ
+sizeAt list a =
+    factorOf true (getD list (record-at a + 2) 0)
+    * factorOf (ltb 1 (getD list (record-at a + 1) 0)) (getD list (record-at a + 3) 0)
+    * factorOf (ltb 2 (getD list (record-at a + 1) 0)) (getD list (record-at a + 4) 0)
+
+-- the cells before each array; behind the last one, of all
+pub record Sums (list table : List ℕ) : Type 0 where
+  pub long : length table ≡ 17
+  pub first : getD table 0 0 ≡ 0
+  pub next : (a : ℕ) → a < 16 → getD table (a + 1) 0 ≡ getD table a 0 + sizeAt list a
+
+-- ---- cells
+-- x and y show the same term, or not
+unfoldable pub Agrees : List ℕ → ℕ → ℕ → ℕ → ℕ → Bool → Type 0
+Agrees m x y a c b =
+    (count : ℕ) (ts : List Tree) (t u : Tree) → Stored m count ts → Shows ts x (cell a c) t → Shows ts y (cell a c) u → b ≡ same t u
+
+-- the contents of array a on both sides, in one store: on the left from slot p on, on the right from slot q on
+pub record Sides (left right m : List ℕ) (p q a size : ℕ) (l r : Content Tree) : Type 0 where
+  pub count : ℕ
+  pub ts : List Tree
+  pub stored : Stored m count ts
+  pub left-room : p + size ≤ length left
+  pub right-room : q + size ≤ length right
+  pub left-shows : (c : ℕ) → c < size → Shows ts (getD left (p + c) 0) (cell a c) (l a c)
+  pub right-shows : (c : ℕ) → c < size → Shows ts (getD right (q + c) 0) (cell a c) (r a c)
+
+abbrev pub agree : Content Tree → Content Tree → ℕ → ℕ → Bool
+agree l r a c = same (l a c) (r a c)
+
+-- d is the first cell from c on at which the sides differ; `size` or more: there is none
+unfoldable pub FirstCell : List ℕ → List ℕ → List ℕ → ℕ → ℕ → ℕ → ℕ → ℕ → ℕ → Type 0
+FirstCell left right m p q a size c d =
+    (l r : Content Tree) → Sides left right m p q a size l r → (found : ℕ → model.Reply) (none : model.Reply)
+    → firstCell (size - c) c (agree l r a) found none ≡ cond (ltb d size) (found d) none
+
+-- the reply on the arrays from a on, where `sum` elements were compared before
+unfoldable pub FirstArray : List ℕ → ℕ → List ℕ → List ℕ → List ℕ → List ℕ → List ℕ → ℕ → ℕ → Reply → Type 0
+FirstArray list mask lefts rights left right m a sum reply =
+    (t : Tables) (l r : Content Tree) → HeaderAt list t → allowedTables t ≡ true
+    → ((b : ℕ) → b < length (t .arrays) → compared mask b (arrayAt (t .arrays) b) ≡ true
+    → Sides left right m (getD lefts b 0) (getD rights b 0) b (cells (arrayAt (t .arrays) b .extents)) l r)
+    → replySays reply ≡ firstDifference mask a (drop a (t .arrays)) (agree l r) (model.equal (sum + comparedSize mask a (drop a (t .arrays))))

@@ -1,0 +1,82 @@
+-- Working out the updates of a list as terms of a store: what cells and store hold, and what each function does to them.
+use Prim.Native.Nat.{ℕ, suc, _+_, _≤_, _<_}
+use mathlib.Core.Path.{_≡_}
+use mathlib.Core.Logic.{_⊎_}
+use mathlib.Core.List.{List, [], _∷_}
+use lib.ListN.{length, getD}
+use Rattle.model.specs.Update.{Tree, Trees, Update}
+use Rattle.model.specs.Update.Tree.{cell}
+use Rattle.terms.specs.Term.{parts, partsOf, partsOfAll}
+use Rattle.terms.specs.Stored.{Ref, Args, Stored, Outcome}
+use Rattle.unroller.specs.Stands.{Proper, many, TreeAt, TreesAt, UpdatesAt}
+use Rattle.comparer.specs.Meaning.{Content, valueOf, valuesOf, free, treesOf, after, values}
+
+-- the header's words of the operators
+pub record Operators (list arities : List ℕ) : Type 0 where
+  pub few : length arities ≤ 16
+  pub word : (o : ℕ) → o < 16 → getD list (1 + o) 0 ≡ getD arities o 0
+
+-- the code's array of 17, `table`, begins with the bases, of which the last is at most the number of slots
+pub record Table (table bases : List ℕ) (room : ℕ) : Type 0 where
+  pub short : length bases ≤ 17
+  pub few : room ≤ 4096
+  pub word : (a : ℕ) → a < length bases → getD table a 0 ≡ getD bases a 0
+  pub fits : (a : ℕ) → a < length bases → getD bases a 0 ≤ room
+  pub sorted : (a b : ℕ) → a ≤ b → b < length bases → getD bases a 0 ≤ getD bases b 0
+
+-- the slot of a cell
+abbrev pub slotOf : List ℕ → ℕ → ℕ → ℕ
+slotOf bases a c = getD bases a 0 + c
+
+-- k is the slot, if there is one
+unfoldable pub Finds : List ℕ → ℕ → ℕ → ℕ → Type 0
+Finds table a c k = a < 17 → getD table a 0 ≤ 4096 → k ≡ getD table a 0 + c
+
+-- r is 0 and t the starting value s, or r is t's id plus 1
+abbrev pub Shows : List Tree → ℕ → Tree → Tree → Type 0
+Shows ts r s t = ((r ≡ 0) × (t ≡ s)) ⊎ Ref ts r t
+
+abbrev pub CellsHold : List ℕ → List ℕ → List Tree → Content Tree → Type 0
+CellsHold bases cells ts h = (a c : ℕ) → Proper bases a c → Shows ts (getD cells (slotOf bases a c) 0) (cell a c) (h a c)
+
+-- all is well: memory holds the trees ts, and the cells the content h
+pub record Ready (table bases cells m : List ℕ) (count : ℕ) (ts : List Tree) (h : Content Tree) : Type 0 where
+  pub slots : Table table bases (length cells)
+  pub stored : Stored m count ts
+  pub holds : CellsHold bases cells ts h
+
+-- the values of arguments
+abbrev pub worked : Trees → Content Tree → Trees
+worked us h = treesOf (valuesOf free us h)
+
+-- the number of arguments of operator o, if there is one
+unfoldable pub Arity : List ℕ → ℕ → ℕ → Type 0
+Arity list o n = o < 16 → n ≡ getD list (1 + o) 0
+
+unfoldable pub Reads : List ℕ → List ℕ → List ℕ → ℕ → ℕ → ℕ → ℕ → ℕ → List ℕ → Type 0
+Reads table cells m count a c count' id m' =
+    (bases : List ℕ) (ts : List Tree) (h : Content Tree) → Ready table bases cells m count ts h → Proper bases a c
+    → Outcome ts (parts (h a c)) m' count' (λ us. Ref us id (h a c))
+
+-- the tree at `at`: its value is stored, with its parts
+unfoldable pub Works : List ℕ → List ℕ → ℕ → ℕ → List ℕ → List ℕ → ℕ → ℕ → ℕ → ℕ → List ℕ → Type 0
+Works table list left at cells m count at' count' id m' =
+    (arities bases : List ℕ) (t : Tree) (to : ℕ) (ts : List Tree) (h : Content Tree) → Operators list arities → TreeAt arities bases list t left at to
+    → Ready table bases cells m count ts h → Outcome ts (parts (valueOf free t h)) m' count' (λ us. (at' ≡ to) × Ref us id (valueOf free t h))
+
+unfoldable pub WorksLeaf : List ℕ → List ℕ → ℕ → List ℕ → List ℕ → ℕ → ℕ → ℕ → ℕ → List ℕ → Type 0
+WorksLeaf table list at cells m count at' count' id m' =
+    (left : ℕ) → (getD list at 0 ≡ 17 → ⊥) → Works table list left at cells m count at' count' id m'
+
+-- the trees at `at`: their values are stored, and their ids follow those below k
+unfoldable pub WorksAll : List ℕ → List ℕ → ℕ → ℕ → List ℕ → List ℕ → ℕ → ℕ → ℕ → List ℕ → ℕ → ℕ → List ℕ → List ℕ → Type 0
+WorksAll table list left at cells m count k n ids at' count' ids' m' =
+    (arities bases : List ℕ) (us : Trees) (to : ℕ) (ts : List Tree) (h : Content Tree) → Operators list arities → TreesAt arities bases list us left at to
+    → many us + k ≡ n → n ≤ 4 → length ids ≡ 4 → ((j : ℕ) → k ≤ j → getD ids j 0 ≡ 0) → Ready table bases cells m count ts h
+    → Outcome ts (partsOf (worked us h)) m' count' (λ vs. (at' ≡ to) × ((j : ℕ) → j < k → getD ids' j 0 ≡ getD ids j 0) × Args vs ids' k (worked us h))
+
+-- the updates at `at`: the cells hold what they leave, and memory every part of every value written
+unfoldable pub Applies : List ℕ → List ℕ → ℕ → List ℕ → List ℕ → ℕ → ℕ → List ℕ → List ℕ → Type 0
+Applies table list at cells m count count' cells' m' =
+    (arities bases : List ℕ) (us : List Update) (ts : List Tree) (h : Content Tree) → Operators list arities → UpdatesAt arities bases list us at
+    → Ready table bases cells m count ts h → Outcome ts (partsOfAll (values us h)) m' count' (λ vs. CellsHold bases cells' vs (after free us h))

@@ -1,0 +1,193 @@
+// Finds the first element at which two lists leave different terms.
+use crate::evaluate::apply_updates;
+use crate::evaluate::wide;
+use crate::reply::Reply;
+use crate::reply::Side;
+ghost use mathlib.Core.Path.{_≡_};
+ghost use Prim.Native.Nat.{_+_, _*_, _≤_, _<_};
+ghost use lib.ListN.{length};
+ghost use lib.Dec.{leb};
+ghost use Rattle.comparer.specs.Comparing.{comparedAt, factorOf, sizeAt, Sums, Agrees, FirstCell, FirstArray};
+ghost use Rattle.comparer.specs.Matching.{Matches};
+
+// An out or inout array whose bit is set.
+fn is_compared(list: &[u32], mask: u16, array: usize) -> bool
+    requires { ⌜ (98 ≤ length (now list)) × (array < 16) ⌝ }
+    ensures { λ r. ⌜ r ≡ comparedAt (now (list .entry)) mask array ⌝ }
+{
+    let bits = mask as usize >> array;
+    if bits % 2 != 1 {
+        return false;
+    }
+    let role = list[18 + 5 * array];
+    if role == 1 {
+        return true;
+    }
+    role == 2
+}
+
+// What a word of a header adds to an array's size. No allowed extent is above 1,024, so products stay small.
+fn factor(used: bool, extent: u32) -> usize
+    ensures { λ r. ⌜ (r ≡ factorOf used extent) × (r ≤ 1024) ⌝ }
+{
+    if !used {
+        return 1;
+    }
+    if extent > 1024 {
+        return 0;
+    }
+    wide(extent)
+}
+
+fn size_of(list: &[u32], array: usize) -> usize
+    requires { ⌜ (98 ≤ length (now list)) × (array < 16) ⌝ }
+    ensures { λ r. ⌜ (r ≡ sizeAt (now (list .entry)) array) × (r ≤ 1073741824) ⌝ }
+{
+    let at = 18 + 5 * array;
+    let dimensions = list[at + 1];
+    let x = factor(true, list[at + 2]);
+    let y = factor(1 < dimensions, list[at + 3]);
+    let z = factor(2 < dimensions, list[at + 4]);
+    x * y * z
+}
+
+// The cells before each array.
+fn bases_of(list: &[u32]) -> [usize; 17]
+    requires { ⌜ 98 ≤ length (now list) ⌝ }
+    ensures { λ r. ⌜ Sums (now (list .entry)) r ⌝ }
+{
+    let mut bases: [usize; 17] = [0; 17];
+    let mut a: usize = 0;
+    while a < 16 {
+        bases[a + 1] = bases[a] + size_of(list, a);
+        a += 1;
+    }
+    bases
+}
+
+// Whether cell c of array a has the same term on both sides. A cell that is not written is its own starting cell, which is not stored for that.
+fn agrees(terms: &[u32], x: u32, y: u32, a: u32, c: u32) -> bool
+    ensures { λ b. ⌜ Agrees (now (terms .entry)) x y a c b ⌝ }
+{
+    if x == y {
+        return true;
+    }
+    if x == 0 {
+        return terms::is_start(terms, y, a, c);
+    }
+    if y == 0 {
+        return terms::is_start(terms, x, a, c);
+    }
+    false
+}
+
+fn fits(from: usize, size: usize, room: usize) -> bool
+    ensures { λ r. ⌜ r ≡ leb (from + size) room ⌝ }
+{
+    if room < size {
+        return false;
+    }
+    from <= room - size
+}
+
+// The first cell of an array at which the sides differ, or its size. The array's cells begin at p on the left and at q on the right.
+fn first_cell(
+    left: &[u32],
+    right: &[u32],
+    terms: &[u32],
+    p: usize,
+    q: usize,
+    array: usize,
+    size: usize,
+) -> usize
+    requires { ⌜ (array < 16) × (size ≤ 1073741824) ⌝ }
+    ensures { λ d. ⌜ FirstCell (now (left .entry)) (now (right .entry)) (now (terms .entry)) p q array size 0 d ⌝ }
+{
+    if !fits(p, size, left.len()) {
+        return 0;
+    }
+    if !fits(q, size, right.len()) {
+        return 0;
+    }
+    let mut c: usize = 0;
+    while c < size {
+        if !agrees(terms, left[p + c], right[q + c], array as u32, c as u32) {
+            return c;
+        }
+        c += 1;
+    }
+    c
+}
+
+// The first difference by array number, then cell number, or the number of elements compared.
+fn first_array(
+    list: &[u32],
+    mask: u16,
+    lefts: &[usize; 17],
+    rights: &[usize; 17],
+    left: &[u32],
+    right: &[u32],
+    terms: &[u32],
+) -> Reply
+    requires { ⌜ 98 ≤ length (now list) ⌝ }
+    ensures { λ r. ⌜ FirstArray (now (list .entry)) mask (now (lefts .entry)) (now (rights .entry)) (now (left .entry)) (now (right .entry)) (now (terms .entry)) 0 0 r ⌝ }
+{
+    let count = wide(list[17]);
+    if count > 16 {
+        return Reply::Equal(0);
+    }
+    let mut a: usize = 0;
+    let mut sum: usize = 0;
+    while a < count {
+        if is_compared(list, mask, a) {
+            let size = size_of(list, a);
+            let c = first_cell(left, right, terms, lefts[a], rights[a], a, size);
+            if c < size {
+                return Reply::Differs(a, c);
+            }
+            sum += size;
+        }
+        a += 1;
+    }
+    Reply::Equal(sum)
+}
+
+// The match of two checked lists, whose tables were found to agree, in cleared work memory. Locals differ, so each side has its own bases.
+pub(crate) fn match_lists(
+    left: &[u32],
+    right: &[u32],
+    mask: u16,
+    cells: &mut [u32],
+    terms: &mut [u32],
+) -> Reply
+    ensures { λ r. ⌜ Matches (now (left .entry)) (now (right .entry)) mask (now (cells .entry)) (now (terms .entry)) r ⌝ }
+{
+    if left.len() < 98 {
+        return Reply::Equal(0);
+    }
+    if right.len() < 98 {
+        return Reply::Equal(0);
+    }
+    if cells.len() < 4096 {
+        return Reply::Equal(0);
+    }
+    let lefts = bases_of(left);
+    let rights = bases_of(right);
+    let n = apply_updates(left, &lefts, &mut cells[0..2048], terms, 0);
+    if n > 4096 {
+        return Reply::Refused(Side::Both, 24, 0);
+    }
+    let k = apply_updates(right, &rights, &mut cells[2048..4096], terms, n);
+    if k > 4096 {
+        return Reply::Refused(Side::Both, 24, 0);
+    }
+    first_array(
+        left,
+        mask,
+        &lefts,
+        &rights,
+        &cells[0..2048],
+        &cells[2048..4096],
+        terms,
+    )
+}

@@ -1,0 +1,255 @@
+// Works out the updates of a list: each value as a term of the store.
+use terms::Kept;
+ghost use mathlib.Core.Path.{_≡_};
+ghost use Prim.Native.Nat.{_+_, _≤_, _<_};
+ghost use lib.ListN.{length};
+ghost use Rattle.comparer.specs.Work.{Finds, Arity, Reads, Works, WorksLeaf, WorksAll, Applies};
+
+// The place past a tree, the number of terms, and the id plus 1. A number above 4,096: there is no room.
+struct Step {
+    at: usize,
+    count: u32,
+    id: u32,
+}
+
+// The same for the arguments of an operator.
+struct Row {
+    at: usize,
+    count: u32,
+    ids: [u32; 4],
+}
+
+pub(crate) fn wide(x: u32) -> usize
+    ensures { λ r. ⌜ r ≡ x ⌝ }
+{
+    x as usize
+}
+
+fn no_room() -> Step
+    ensures { λ r. ⌜ 4096 < r .count ⌝ }
+{
+    Step {
+        at: 0,
+        count: 4097,
+        id: 0,
+    }
+}
+
+// The slot of a cell: the cells before its array, and its number. Of no cell, any number.
+fn slot(bases: &[usize; 17], array: u32, cell: u32) -> usize
+    ensures { λ r. ⌜ Finds (now (bases .entry)) array cell r ⌝ }
+{
+    let a = wide(array);
+    if a >= 17 {
+        return 4096;
+    }
+    let base = bases[a];
+    if base > 4096 {
+        return 4096;
+    }
+    base + wide(cell)
+}
+
+// What the cell holds now. One that is not written yet is its starting cell.
+fn read(
+    bases: &[usize; 17],
+    cells: &[u32],
+    terms: &mut [u32],
+    count: u32,
+    array: u32,
+    cell: u32,
+) -> Kept
+    ensures { λ r. ⌜ Reads (now (bases .entry)) (now (cells .entry)) (now (terms .entry)) count array cell (r .count) (r .id) (now (terms .exit)) ⌝ }
+{
+    let k = slot(bases, array, cell);
+    if k >= cells.len() {
+        return Kept { count: 4097, id: 0 };
+    }
+    let id = cells[k];
+    if id != 0 {
+        return Kept {
+            count: count,
+            id: id,
+        };
+    }
+    terms::put(terms, count, 16, array, [cell, 0, 0, 0])
+}
+
+fn leaf(
+    list: &[u32],
+    at: usize,
+    bases: &[usize; 17],
+    cells: &[u32],
+    terms: &mut [u32],
+    count: u32,
+) -> Step
+    requires { ⌜ at + 3 ≤ length (now list) ⌝ }
+    ensures { λ r. ⌜ WorksLeaf (now (bases .entry)) (now (list .entry)) at (now (cells .entry)) (now (terms .entry)) count (r .at) (r .count) (r .id) (now (terms .exit)) ⌝ }
+{
+    let code = list[at];
+    let x = list[at + 1];
+    if code == 16 {
+        let c = list[at + 2];
+        let r = read(bases, cells, terms, count, x, c);
+        return Step {
+            at: at + 3,
+            count: r.count,
+            id: r.id,
+        };
+    }
+    let p = terms::put(terms, count, code, x, [0; 4]);
+    Step {
+        at: at + 3,
+        count: p.count,
+        id: p.id,
+    }
+}
+
+// The header's word for this operator.
+fn arity(list: &[u32], operator: u32) -> usize
+    requires { ⌜ 98 ≤ length (now list) ⌝ }
+    ensures { λ r. ⌜ Arity (now (list .entry)) operator r ⌝ }
+{
+    let o = wide(operator);
+    if o >= 16 {
+        return 0;
+    }
+    wide(list[1 + o])
+}
+
+// The tree at `at`, whose operators nest at most `left` deep.
+fn node(
+    list: &[u32],
+    at: usize,
+    bases: &[usize; 17],
+    cells: &[u32],
+    terms: &mut [u32],
+    count: u32,
+    left: usize,
+) -> Step
+    requires { ⌜ 98 ≤ length (now list) ⌝ }
+    ensures { λ r. ⌜ Works (now (bases .entry)) (now (list .entry)) left at (now (cells .entry)) (now (terms .entry)) count (r .at) (r .count) (r .id) (now (terms .exit)) ⌝ }
+{
+    if list.len() - 3 < at {
+        return no_room();
+    }
+    if list[at] != 17 {
+        return leaf(list, at, bases, cells, terms, count);
+    }
+    if left == 0 {
+        return no_room();
+    }
+    let o = list[at + 1];
+    let n = arity(list, o);
+    let s = args(
+        list,
+        at + 3,
+        bases,
+        cells,
+        terms,
+        count,
+        left - 1,
+        0,
+        n,
+        [0; 4],
+    );
+    if s.count > 4096 {
+        return no_room();
+    }
+    let ids = s.ids;
+    let p = terms::put(terms, s.count, 17, o, ids);
+    Step {
+        at: s.at,
+        count: p.count,
+        id: p.id,
+    }
+}
+
+// The arguments from number k on, of n; `ids` has those before.
+fn args(
+    list: &[u32],
+    at: usize,
+    bases: &[usize; 17],
+    cells: &[u32],
+    terms: &mut [u32],
+    count: u32,
+    left: usize,
+    k: usize,
+    n: usize,
+    ids: [u32; 4],
+) -> Row
+    requires { ⌜ 98 ≤ length (now list) ⌝ }
+    ensures { λ r. ⌜ WorksAll (now (bases .entry)) (now (list .entry)) left at (now (cells .entry)) (now (terms .entry)) count k n ids (r .at) (r .count) (r .ids) (now (terms .exit)) ⌝ }
+{
+    if k >= n {
+        return Row {
+            at: at,
+            count: count,
+            ids: ids,
+        };
+    }
+    if k >= 4 {
+        return Row {
+            at: at,
+            count: 4097,
+            ids: ids,
+        };
+    }
+    let s = node(list, at, bases, cells, terms, count, left);
+    if s.count > 4096 {
+        return Row {
+            at: at,
+            count: 4097,
+            ids: ids,
+        };
+    }
+    let mut more = ids;
+    more[k] = s.id;
+    args(
+        list,
+        s.at,
+        bases,
+        cells,
+        terms,
+        s.count,
+        left,
+        k + 1,
+        n,
+        more,
+    )
+}
+
+// Works out the updates one after another. The answer is the number of terms then, or above 4,096 where they have no room.
+pub(crate) fn apply_updates(
+    list: &[u32],
+    bases: &[usize; 17],
+    cells: &mut [u32],
+    terms: &mut [u32],
+    count: u32,
+) -> u32
+    requires { ⌜ 98 ≤ length (now list) ⌝ }
+    ensures { λ r. ⌜ Applies (now (bases .entry)) (now (list .entry)) 98 (now (cells .entry)) (now (terms .entry)) count r (now (cells .exit)) (now (terms .exit)) ⌝ }
+{
+    let mut at: usize = 98;
+    let mut n = count;
+    while at <= list.len() - 3 {
+        if list[at] != 1 {
+            return n;
+        }
+        let k = slot(bases, list[at + 1], list[at + 2]);
+        let s = node(list, at + 3, bases, cells, terms, n, 12);
+        if s.count > 4096 {
+            return 4097;
+        }
+        if k >= cells.len() {
+            return 4097;
+        }
+        cells[k] = s.id;
+        n = s.count;
+        if s.at <= at {
+            return 4097;
+        }
+        at = s.at;
+    }
+    n
+}

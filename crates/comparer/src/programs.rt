@@ -1,0 +1,168 @@
+// Two programs, or both in one framed input: question 1, then 2 to 21 of each, then 22 to 24.
+use crate::lists::compared;
+use crate::lists::long_enough;
+use crate::reply::Reply;
+use crate::reply::Side;
+use terms::clear;
+use unroller::Unrolled;
+use unroller::unroll;
+ghost use mathlib.Core.Path.{_≡_};
+ghost use mathlib.Core.Bool.{true};
+ghost use Prim.Native.Nat.{_≤_};
+ghost use lib.ListN.{length};
+ghost use Rattle.model.specs.Memory.{cleared, listWords, workLeft};
+ghost use Rattle.comparer.specs.Answers.{replySays};
+ghost use Rattle.comparer.specs.Laying.{Lays};
+ghost use Rattle.comparer.specs.Entry.{enoughLent, entryReply, programsReply, allBits, inputReply};
+
+// A program's list is laid out, or question and place of its refusal.
+pub(crate) enum Laid {
+    Out,
+    Not(u8, usize),
+}
+
+fn lay_out(program: &[u8], list: &mut [u32]) -> Laid
+    requires { ⌜ listWords ≤ length (now list) ⌝ }
+    ensures { λ r. ⌜ Lays (now (program .entry)) (now (list .exit)) r ⌝ }
+{
+    match unroll(program, list) {
+        Unrolled::Updates(_) => Laid::Out,
+        Unrolled::Refused(k, p) => Laid::Not(k, p),
+        Unrolled::Short => Laid::Not(25, 0),
+    }
+}
+
+// 2 to 21 of the left, then of the right, then 22 to 24.
+fn unrolled_reply(
+    left: &[u8],
+    right: &[u8],
+    mask: u16,
+    left_list: &mut [u32],
+    right_list: &mut [u32],
+    cells: &mut [u32],
+    terms: &mut [u32],
+) -> Reply
+    requires { ⌜ enoughLent (now «left_list») (now «right_list») (now cells) (now terms) ≡ true ⌝ }
+    ensures { λ r. ⌜ replySays r ≡ programsReply mask (now (left .entry)) (now (right .entry)) ⌝ }
+{
+    match lay_out(left, left_list) {
+        Laid::Not(k, p) => Reply::Refused(Side::Left, k, p),
+        Laid::Out => match lay_out(right, right_list) {
+            Laid::Not(k, p) => Reply::Refused(Side::Right, k, p),
+            Laid::Out => compared(left_list, right_list, mask, cells, terms),
+        },
+    }
+}
+
+fn clear_all(left_list: &mut [u32], right_list: &mut [u32], cells: &mut [u32], terms: &mut [u32])
+    ensures { λ _. ⌜ now («left_list» .exit) ≡ cleared (now («left_list» .entry)) ⌝ }
+    ensures { λ _. ⌜ now («right_list» .exit) ≡ cleared (now («right_list» .entry)) ⌝ }
+    ensures { λ _. ⌜ now (cells .exit) ≡ cleared (now (cells .entry)) ⌝ }
+    ensures { λ _. ⌜ now (terms .exit) ≡ cleared (now (terms .entry)) ⌝ }
+{
+    clear(left_list);
+    clear(right_list);
+    clear(cells);
+    clear(terms);
+}
+
+pub fn compare_programs_masked(
+    left: &[u8],
+    right: &[u8],
+    mask: u16,
+    left_list: &mut [u32],
+    right_list: &mut [u32],
+    cells: &mut [u32],
+    terms: &mut [u32],
+) -> Reply
+    ensures { λ r. ⌜ replySays r ≡ entryReply (enoughLent (now («left_list» .entry)) (now («right_list» .entry)) (now (cells .entry)) (now (terms .entry))) (programsReply mask (now (left .entry)) (now (right .entry))) ⌝ }
+    ensures { λ _. ⌜ now («left_list» .exit) ≡ workLeft (enoughLent (now («left_list» .entry)) (now («right_list» .entry)) (now (cells .entry)) (now (terms .entry))) (now («left_list» .entry)) ⌝ }
+    ensures { λ _. ⌜ now («right_list» .exit) ≡ workLeft (enoughLent (now («left_list» .entry)) (now («right_list» .entry)) (now (cells .entry)) (now (terms .entry))) (now («right_list» .entry)) ⌝ }
+    ensures { λ _. ⌜ now (cells .exit) ≡ workLeft (enoughLent (now («left_list» .entry)) (now («right_list» .entry)) (now (cells .entry)) (now (terms .entry))) (now (cells .entry)) ⌝ }
+    ensures { λ _. ⌜ now (terms .exit) ≡ workLeft (enoughLent (now («left_list» .entry)) (now («right_list» .entry)) (now (cells .entry)) (now (terms .entry))) (now (terms .entry)) ⌝ }
+{
+    if !long_enough(left_list.len(), right_list.len(), cells.len(), terms.len()) {
+        return Reply::Refused(Side::Both, 25, 0);
+    }
+    let reply = unrolled_reply(left, right, mask, left_list, right_list, cells, terms);
+    clear_all(left_list, right_list, cells, terms);
+    reply
+}
+
+// All bits of the mask are set.
+pub fn compare_programs(
+    left: &[u8],
+    right: &[u8],
+    left_list: &mut [u32],
+    right_list: &mut [u32],
+    cells: &mut [u32],
+    terms: &mut [u32],
+) -> Reply
+    ensures { λ r. ⌜ replySays r ≡ entryReply (enoughLent (now («left_list» .entry)) (now («right_list» .entry)) (now (cells .entry)) (now (terms .entry))) (programsReply allBits (now (left .entry)) (now (right .entry))) ⌝ }
+    ensures { λ _. ⌜ now («left_list» .exit) ≡ workLeft (enoughLent (now («left_list» .entry)) (now («right_list» .entry)) (now (cells .entry)) (now (terms .entry))) (now («left_list» .entry)) ⌝ }
+    ensures { λ _. ⌜ now («right_list» .exit) ≡ workLeft (enoughLent (now («left_list» .entry)) (now («right_list» .entry)) (now (cells .entry)) (now (terms .entry))) (now («right_list» .entry)) ⌝ }
+    ensures { λ _. ⌜ now (cells .exit) ≡ workLeft (enoughLent (now («left_list» .entry)) (now («right_list» .entry)) (now (cells .entry)) (now (terms .entry))) (now (cells .entry)) ⌝ }
+    ensures { λ _. ⌜ now (terms .exit) ≡ workLeft (enoughLent (now («left_list» .entry)) (now («right_list» .entry)) (now (cells .entry)) (now (terms .entry))) (now (terms .entry)) ⌝ }
+{
+    compare_programs_masked(left, right, 65535, left_list, right_list, cells, terms)
+}
+
+fn wide(x: u8) -> usize
+    ensures { λ r. ⌜ r ≡ x ⌝ }
+{
+    x as usize
+}
+
+// The left's length in two bytes, the left, and the right up to the end.
+fn framed_reply(
+    input: &[u8],
+    left_list: &mut [u32],
+    right_list: &mut [u32],
+    cells: &mut [u32],
+    terms: &mut [u32],
+) -> Reply
+    requires { ⌜ enoughLent (now «left_list») (now «right_list») (now cells) (now terms) ≡ true ⌝ }
+    ensures { λ r. ⌜ replySays r ≡ inputReply (now (input .entry)) ⌝ }
+{
+    if input.len() < 2 {
+        return Reply::Refused(Side::Input, 1, 0);
+    }
+    let n = wide(input[0]) + 256 * wide(input[1]);
+    if 16384 < n {
+        return Reply::Refused(Side::Left, 2, 0);
+    }
+    let end = 2 + n;
+    if input.len() < end {
+        return Reply::Refused(Side::Input, 1, 0);
+    }
+    unrolled_reply(
+        &input[2..end],
+        &input[end..],
+        65535,
+        left_list,
+        right_list,
+        cells,
+        terms,
+    )
+}
+
+pub fn compare_input(
+    input: &[u8],
+    left_list: &mut [u32],
+    right_list: &mut [u32],
+    cells: &mut [u32],
+    terms: &mut [u32],
+) -> Reply
+    ensures { λ r. ⌜ replySays r ≡ entryReply (enoughLent (now («left_list» .entry)) (now («right_list» .entry)) (now (cells .entry)) (now (terms .entry))) (inputReply (now (input .entry))) ⌝ }
+    ensures { λ _. ⌜ now («left_list» .exit) ≡ workLeft (enoughLent (now («left_list» .entry)) (now («right_list» .entry)) (now (cells .entry)) (now (terms .entry))) (now («left_list» .entry)) ⌝ }
+    ensures { λ _. ⌜ now («right_list» .exit) ≡ workLeft (enoughLent (now («left_list» .entry)) (now («right_list» .entry)) (now (cells .entry)) (now (terms .entry))) (now («right_list» .entry)) ⌝ }
+    ensures { λ _. ⌜ now (cells .exit) ≡ workLeft (enoughLent (now («left_list» .entry)) (now («right_list» .entry)) (now (cells .entry)) (now (terms .entry))) (now (cells .entry)) ⌝ }
+    ensures { λ _. ⌜ now (terms .exit) ≡ workLeft (enoughLent (now («left_list» .entry)) (now («right_list» .entry)) (now (cells .entry)) (now (terms .entry))) (now (terms .entry)) ⌝ }
+{
+    if !long_enough(left_list.len(), right_list.len(), cells.len(), terms.len()) {
+        return Reply::Refused(Side::Both, 25, 0);
+    }
+    let reply = framed_reply(input, left_list, right_list, cells, terms);
+    clear_all(left_list, right_list, cells, terms);
+    reply
+}
