@@ -24,3 +24,4 @@ pub mod Firsts
 pub mod Shared
 pub mod Halves
 pub mod Whole
+pub mod Carried

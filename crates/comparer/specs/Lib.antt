@@ -14,3 +14,4 @@ pub mod Asked
 pub mod Laying
 pub mod Work
 pub mod Comparing
+pub mod Carried

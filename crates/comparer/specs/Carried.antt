@@ -1,0 +1,50 @@
+-- The claims, carried to what the entries answer: a call's contract is the hypothesis, and there is no other.
+use Prim.Native.Nat.{ℕ}
+use mathlib.Core.Path.{_≡_}
+use mathlib.Core.List.{List, List·Memᴰ}
+use mathlib.Core.Bool.{Bool, true, false}
+use mathlib.Core.Option.{Option, some}
+use lib.ListN.{length, take, drop}
+use Rattle.model.specs.Update.{Listed}
+use Rattle.model.specs.Reply.{isRefused}
+use Rattle.reader.specs.Field.{littleEndian}
+use Rattle.unroller.specs.Run.{ok}
+use Rattle.unroller.specs.Layout.{layout}
+use Rattle.unroller.specs.Decode.{decode}
+use Rattle.unroller.specs.Unroll.{unrolled}
+use Rattle.comparer.specs.Entry.{entryReply, wordsReply, programsReply, inputReply}
+use Rattle.comparer.specs.Order.{NewOrder, reorder}
+use Rattle.comparer.specs.Rows.{Row, framed, starred}
+use Rattle.comparer.specs.Claims.{ToldOf, SameValues}
+use Rattle.comparer.specs.Answers.{replySays}
+use Rattle.comparer.specs.declared.reply.Reply.{Reply}
+use Rattle.comparer.specs.declared.reply.Reply.the-variants.{Equal}
+
+-- Demand 2, for what `compare_lists` answers.
+abbrev pub ListsAnswered : Type 1
+ListsAnswered =
+    (mask : ℕ) (one other : List ℕ) (cells terms : ℕ) (r : Reply) → replySays r ≡ wordsReply mask one other cells terms → isRefused (replySays r) ≡ false
+    → ToldOf mask (λ w l. decode w ≡ some l) one other (replySays r)
+
+-- Demand 2, for what `compare_programs_masked` and `compare_programs` answer.
+abbrev pub ProgramsAnswered : Type 1
+ProgramsAnswered =
+    (long : Bool) (mask : ℕ) (one other : List ℕ) (r : Reply) → replySays r ≡ entryReply long (programsReply mask one other) → isRefused (replySays r) ≡ false
+    → ToldOf mask (λ p l. unrolled p ≡ ok l) one other (replySays r)
+
+-- Demand 3, for what `compare_lists` answers: of an accepted list and of any new order, beside any third slice, on either side.
+abbrev pub ReorderedAnswered : Type 0
+ReorderedAnswered =
+    (old : List ℕ) (l : Listed) → decode old ≡ some l → (order : List ℕ) → NewOrder (l .updates) order → (mask : ℕ) (third : List ℕ) (cells terms : ℕ) (r q : Reply)
+    → ((replySays r ≡ wordsReply mask (layout (reorder l order) (length old)) third cells terms → replySays q ≡ wordsReply mask old third cells terms → replySays r ≡ replySays q)
+    × (replySays r ≡ wordsReply mask third (layout (reorder l order) (length old)) cells terms → replySays q ≡ wordsReply mask third old cells terms → replySays r ≡ replySays q))
+
+-- An "equal" of `compare_input` implies equal values for every content and meaning.
+abbrev pub EqualAnswered : Type 1
+EqualAnswered =
+    (long : Bool) (s : List ℕ) (r : Reply) (n : ℕ) → replySays r ≡ entryReply long (inputReply s) → r ≡ Equal n
+    → SameValues (take (littleEndian 2 s 0) (drop 2 s)) (drop (littleEndian 2 s 0) (drop 2 s)) n
+
+-- The starred rows, for what `compare_input` answers in enough memory.
+abbrev pub StarredAnswered : Type 0
+StarredAnswered = (any : List ℕ) (x : Row) → List·Memᴰ x starred → (r : Reply) → replySays r ≡ entryReply true (inputReply (framed (x .one) (x .other any))) → replySays r ≡ x .reply
