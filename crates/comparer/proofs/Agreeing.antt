@@ -1,5 +1,5 @@
 -- What `agrees` answers.
-use mathlib.Core.Path.{_≡_, refl, sym, ap, _∙_, subst}
+use mathlib.Core.Path.{_≡_, refl, sym, ap, _∙_}
 use mathlib.Core.Logic.{_⊎_, inl, inr}
 use mathlib.Core.Bool.{Bool, true, false, true≢false}
 use mathlib.Core.List.{List}
@@ -8,7 +8,7 @@ use native.Mathlib.Omega.{arith}
 use Rattle.model.specs.Update.{Tree}
 use Rattle.model.specs.Update.Tree.{cell}
 use Rattle.terms.specs.Term.{same}
-use Rattle.terms.specs.Stored.{Ref, Stored, Starts}
+use Rattle.terms.specs.Stored.{Ref, Starts}
 use Rattle.terms.proofs.Same.{same-sound, same-complete}
 use Rattle.terms.proofs.Members.{different}
 use Rattle.terms.proofs.Laws.{same-id}

@@ -9,17 +9,17 @@ use native.Mathlib.Numerals.{add-one}
 use native.Mathlib.Omega.{arith}
 use lib.ListN.{length, getD, set, replicate, length-set, List·getD-eq-default, getD-replicate}
 use lib.Seq.{getD-set-same, getD-set-other}
-use lib.Dec.{ltb}
-use borrow.Author.Tests.{ltb-true, ltb-false}
+use lib.Dec.{ltb, leb}
+use borrow.Author.Tests.{ltb-true, ltb-false, leb-true, leb-false}
 use Rattle.model.specs.Update.{Tree, Trees}
 use Rattle.model.specs.Update.Tree.{cell, number, constant, operator}
 use Rattle.model.specs.Update.Trees.{nil, cons}
 use Rattle.terms.specs.Term.{parts, partsOf}
-use Rattle.terms.specs.Stored.{In, Ref, Args, Means, Stored, Grown, Over, Outcome, full, fine, Puts}
+use Rattle.terms.specs.Stored.{In, Ref, Args, Means, Outcome, full, fine, Puts}
 use Rattle.terms.proofs.Sets.{grown-none, grown-ref, over-more, after-grown, same-set, is-full, is-fine}
 use Rattle.unroller.specs.Stands.{many, TreeAt, TreesAt}
 use Rattle.comparer.specs.Meaning.{Content, valueOf, valuesOf, free}
-use Rattle.comparer.specs.Work.{Operators, Arity, Ready, worked, Works, WorksAll}
+use Rattle.comparer.specs.Work.{Operators, Arity, Operates, Ready, worked, Works, WorksAll}
 use Rattle.comparer.proofs.Slots.{cells-on, outcome-on}
 
 -- ---- places
@@ -127,24 +127,25 @@ module _ (table list : List ℕ) (left at : ℕ) (cells m : List ℕ) (count : �
       args-of : (arities bases : List ℕ) (o : ℕ) (us : Trees) (to : ℕ) (ts : List Tree) (h : Content Tree) → Operators list arities
           → TreeAt arities bases list (operator o us) left at to → Ready table bases cells m count ts h
           → Outcome ts (partsOf (worked us h)) m1 count1 (GotAll to (worked us h))
-      unfolding WorksAll TreeAt Arity
+      unfolding WorksAll TreeAt
       args-of arities bases o us to ts h O T R =
           let d : left - 1 ≡ T .4 .0 = omega (arith, T .4 .1) in
           let l : o < 16 = omega (arith, T .1, O .few) in
-          let p : n ≡ getD list (1 + o) 0 = subst (λ (x : ℕ). x < 16 → n ≡ getD list (1 + x) 0) (T .0 .one) q l in
-          let a : n ≡ many us = p ∙ O .word o l ∙ T .2 in
-          A arities bases us to ts h O (subst (λ (x : ℕ). TreesAt arities bases list us x (at + 3) to) (sym d) (T .4 .2)) (omega arith) (omega (arith, T .3))
+          let p : Arity list o n = subst (λ (x : ℕ). Arity list x n) (T .0 .one) q in
+          let w : getD list (1 + o) 0 ≡ many us = O .word o l ∙ T .2 in
+          let a : n ≡ many us = p .word l (omega (arith, T .3)) ∙ w in
+          A arities bases us to ts h O (subst (λ (x : ℕ). TreesAt arities bases list us x (at + 3) to) (sym d) (T .4 .2)) (omega arith)
           refl (λ j i. none4-zero j) R
 
-      pub node-full : 4096 < count1 → (at' count' id : ℕ) → 4096 < count' → Works table list left at cells m count at' count' id m1
-      node-full l at' count' id g =
-          by-operator at' count' id m1
+      node-full : 4096 < count1 → (at' count' id : ℕ) (m' : List ℕ) → 4096 < count' → Works table list left at cells m count at' count' id m'
+      node-full l at' count' id m' g =
+          by-operator at' count' id m'
           (λ arities bases o us to ts h O T R.
           let w = worked us h in
           full g (over-more ts (partsOf w) (operator o w ∷ partsOf w) (λ x i. List·Memᴰ·tail i)
           (is-full m1 count1 (GotAll to w) ts (partsOf w) l (args-of arities bases o us to ts h O T R))))
 
-      pub node-put : count1 ≤ 4096 → (count' id : ℕ) (m' : List ℕ) → Puts m1 count1 17 (getD list (at + 1) 0) ids1 count' id m'
+      node-put : count1 ≤ 4096 → (count' id : ℕ) (m' : List ℕ) → Puts m1 count1 17 (getD list (at + 1) 0) ids1 count' id m'
           → Works table list left at cells m count at1 count' id m'
       unfolding Puts Means TreeAt
       node-put l count' id m' P =
@@ -158,6 +159,25 @@ module _ (table list : List ℕ) (left at : ℕ) (cells m : List ℕ) (count : �
           (after-grown m' count' (λ us. Ref us id v) ts (partsOf w) (F .0) (v ∷ []) (F .2)
           (P (F .0) v (F .1) (refl, T .0 .one, args-four (F .0) ids1 w 0 (omega (arith, many-worked us h, T .3)) (F .3 .2))))))
 
+      pub node-done : (at' count' id : ℕ) (m' : List ℕ) → Operates m1 (getD list (at + 1) 0) at1 count1 ids1 at' count' id m'
+          → Works table list left at cells m count at' count' id m'
+      node-done at' count' id m' D = go (leb count1 4096) refl
+        where
+          go : (b : Bool) → leb count1 4096 ≡ b → Works table list left at cells m count at' count' id m'
+          go true b =
+              let l = leb-true count1 4096 b in
+              let P = D .puts l in
+              subst (λ (x : ℕ). Works table list left at cells m count x count' id m') (sym (P .0)) (node-put l count' id m' (P .1))
+          go false b = let l = leb-false count1 4096 b in node-full l at' count' id m' (D .full l)
+
+-- ---- operate
+module _ (m : List ℕ) (o at count : ℕ) (ids : List ℕ) where
+  pub operates-full : 4096 < count → (at' count' id : ℕ) → 4096 < count' → Operates m o at count ids at' count' id m
+  operates-full l at' count' id g = record { puts = λ h. absurd (omega arith); full = λ h. g }
+
+  pub operates-put : count ≤ 4096 → (count' id : ℕ) (m' : List ℕ) → Puts m count 17 o ids count' id m' → Operates m o at count ids at count' id m'
+  operates-put l count' id m' P = record { puts = λ h. (refl, P); full = λ h. absurd (omega arith) }
+
 -- ---- args
 module _ (table list : List ℕ) (left at : ℕ) (cells m : List ℕ) (count k n : ℕ) (ids : List ℕ) where
   abbrev GotRow : ℕ → List ℕ → ℕ → Trees → List Tree → Type 0
@@ -165,30 +185,26 @@ module _ (table list : List ℕ) (left at : ℕ) (cells m : List ℕ) (count k n
 
   pub all-none : n ≤ k → WorksAll table list left at cells m count k n ids at count ids m
   unfolding WorksAll TreesAt many valuesOf partsOf Args
-  all-none l arities bases nil to ts h O T c f y z R = fine ts (R .stored) (grown-none ts [] (λ x i. absurd (List·Memᴰ·not-nil i))) (sym T, λ j i. refl, z)
-  all-none l arities bases (cons t us) to ts h O T c f y z R = absurd (omega arith)
-
-  pub all-many : k < n → 4 ≤ k → (at' count' : ℕ) (ids' m' : List ℕ) → WorksAll table list left at cells m count k n ids at' count' ids' m'
-  unfolding WorksAll
-  all-many l g at' count' ids' m' arities bases us to ts h O T c f y z R = absurd (omega arith)
+  all-none l arities bases nil to ts h O T c y z R = fine ts (R .stored) (grown-none ts [] (λ x i. absurd (List·Memᴰ·not-nil i))) (sym T, λ j i. refl, z)
+  all-none l arities bases (cons t us) to ts h O T c y z R = absurd (omega arith)
 
   module _ (l : k < n) (at1 count1 id1 : ℕ) (m1 : List ℕ) (W : Works table list left at cells m count at1 count1 id1 m1) where
-    pub all-full : 4096 < count1 → (at' : ℕ) (ids' : List ℕ) → WorksAll table list left at cells m count k n ids at' 4097 ids' m1
+    pub all-full : 4096 < count1 → (at' : ℕ) (ids' : List ℕ) → WorksAll table list left at cells m count k n ids at' count1 ids' m1
     unfolding WorksAll TreesAt many valuesOf partsOf Works
-    all-full g at' ids' arities bases nil to ts h O T c f y z R = absurd (omega arith)
-    all-full g at' ids' arities bases (cons t us) to ts h O T c f y z R =
+    all-full g at' ids' arities bases nil to ts h O T c y z R = absurd (omega arith)
+    all-full g at' ids' arities bases (cons t us) to ts h O T c y z R =
         let v = valueOf free t h in
         let w = partsOf (worked us h) in
-        full (omega arith)
+        full g
         (over-more ts (parts v) (parts v ++ w) (λ x i. Memᴰ·append-left w i)
         (is-full m1 count1 (Got at1 (T .0) id1 v) ts (parts v) g (W arities bases t (T .0) ts h O (T .1) R)))
 
-    pub all-step : count1 ≤ 4096 → k < 4 → (at' count' : ℕ) (ids' m' : List ℕ)
+    pub all-step : count1 ≤ 4096 → n ≤ 4 → (at' count' : ℕ) (ids' m' : List ℕ)
         → WorksAll table list left at1 cells m1 count1 (k + 1) n (set ids k id1) at' count' ids' m'
         → WorksAll table list left at cells m count k n ids at' count' ids' m'
     unfolding WorksAll TreesAt many valuesOf partsOf Works Args
-    all-step g i at' count' ids' m' A arities bases nil to ts h O T c f y z R = absurd (omega arith)
-    all-step g i at' count' ids' m' A arities bases (cons t us) to ts h O T c f y z R =
+    all-step g i at' count' ids' m' A arities bases nil to ts h O T c y z R = absurd (omega arith)
+    all-step g i at' count' ids' m' A arities bases (cons t us) to ts h O T c y z R =
         let v = valueOf free t h in
         let w = worked us h in
         let F = is-fine m1 count1 (Got at1 (T .0) id1 v) ts (parts v) g (W arities bases t (T .0) ts h O (T .1) R) in
@@ -205,4 +221,4 @@ module _ (table list : List ℕ) (left at : ℕ) (cells m : List ℕ) (count k n
             subst (λ (x : ℕ). Args vs ids' x w) (add-one k) (q .2),
           ),
         ))
-        (A arities bases us to (F .0) h O (subst (λ (x : ℕ). TreesAt arities bases list us left x to) (sym (F .3 .0)) (T .2)) (omega arith) f (length-set ids k id1 ∙ y) z1 R1))
+        (A arities bases us to (F .0) h O (subst (λ (x : ℕ). TreesAt arities bases list us left x to) (sym (F .3 .0)) (T .2)) (omega arith) (length-set ids k id1 ∙ y) z1 R1))

@@ -2,14 +2,14 @@
 use mathlib.Core.Path.{_≡_, refl, sym, ap₂, subst, subst₂}
 use mathlib.Core.Logic.{⊎-elim}
 use mathlib.Core.List.{List, [], _∷_}
-use Prim.Native.Nat.{ℕ, _+_, _≤_, _<_}
+use Prim.Native.Nat.{ℕ, _+_, _≤_}
 use native.Mathlib.Omega.{arith}
 use lib.ListN.{length, getD, replicate}
-use Rattle.model.specs.Update.{Tree, Trees}
+use Rattle.model.specs.Update.{Tree}
 use Rattle.model.specs.Update.Tree.{cell, number, constant, operator}
 use Rattle.terms.specs.Term.{parts}
 use Rattle.terms.specs.Store.{nodeOf}
-use Rattle.terms.specs.Stored.{Ref, Means, Stored, Outcome, fine, Puts}
+use Rattle.terms.specs.Stored.{Ref, Means, Outcome, fine, Puts}
 use Rattle.terms.proofs.Sets.{closed, grown-none, ref-in}
 use Rattle.unroller.specs.Stands.{Proper, TreeAt}
 use Rattle.comparer.specs.Meaning.{Content, valueOf}

@@ -11,17 +11,17 @@ pub mod Input
 pub mod Table
 pub mod Examples
 pub mod Writing
+pub mod Carried
 mod Headers
 mod ListEntries
 mod ProgramEntries
-pub mod Slots
-pub mod Leaves
-pub mod Arguments
-pub mod Updates
-pub mod Sizes
-pub mod Agreeing
-pub mod Firsts
-pub mod Shared
-pub mod Halves
-pub mod Whole
-pub mod Carried
+mod Slots
+mod Leaves
+mod Arguments
+mod Updates
+mod Sizes
+mod Agreeing
+mod Firsts
+mod Shared
+mod Halves
+mod Whole

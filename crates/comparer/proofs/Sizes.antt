@@ -1,22 +1,22 @@
 -- What the functions over the header's words answer, and that their sums are the bases of the tables.
 use mathlib.Core.Path.{_≡_, refl, sym, ap, ap₂, _∙_, subst}
 use mathlib.Core.Logic.{⊎-elim}
-use mathlib.Core.Bool.{Bool, true, false, _&&_, _||_, cond, and-false}
+use mathlib.Core.Bool.{Bool, true, false, _&&_, _||_, and-false}
 use mathlib.Core.List.{List, [], _∷_}
 use Prim.Native.Nat.{ℕ, zero, suc, _+_, _-_, _*_, _/_, _%_, _^_, _≤_, _<_}
 use native.Mathlib.Nat.{eq-or-lt-of-le, mul-one, mul-assoc, mul-le-mul}
 use native.Mathlib.Omega.{arith}
-use lib.ListN.{length, getD, set, replicate, length-set, getD-replicate}
+use lib.ListN.{length, getD, set, replicate, length-set}
 use lib.Seq.{getD-set-same, getD-set-other}
 use lib.Dec.{eqb, ltb, leb}
-use borrow.Author.Tests.{eq-eqb, ne-eqb, le-leb, lt-leb, leb-true, leb-false, lt-ltb, le-ltb}
+use borrow.Author.Tests.{eq-eqb, ne-eqb, le-leb, lt-leb, leb-true, leb-false}
 use Rattle.model.specs.Test.{within, every}
 use Rattle.model.specs.Tables.{Array, Tables, cells, arrayAt}
 use Rattle.unroller.specs.Allowed.{allowedArray}
-use Rattle.unroller.specs.Stands.{basesOf, ArrayAt, HeaderAt}
-use Rattle.unroller.proofs.Parts.{both, within-low, within-high, ArrayParts, array-parts, TablesParts}
+use Rattle.unroller.specs.Stands.{basesOf, HeaderAt}
+use Rattle.unroller.proofs.Parts.{both, within-low, within-high, array-parts, TablesParts}
 use Rattle.unroller.proofs.Stands.{bases-length, bases-first, bases-step, bases-last, bases-sorted}
-use Rattle.comparer.specs.Match.{bit, compared}
+use Rattle.comparer.specs.Match.{compared}
 use Rattle.comparer.specs.Work.{Table}
 use Rattle.comparer.specs.Comparing.{record-at, comparedAt, factorOf, sizeAt, Sums}
 

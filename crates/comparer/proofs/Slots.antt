@@ -1,6 +1,6 @@
 -- Cells and their slots; what holds goes on holding as the store grows.
 use mathlib.Core.Path.{_≡_, refl, ap, _∙_}
-use mathlib.Core.Logic.{_⊎_, inl, inr, ⊎-elim}
+use mathlib.Core.Logic.{inl, inr, ⊎-elim}
 use mathlib.Core.Bool.{Bool, true, false}
 use mathlib.Core.List.{List}
 use Prim.Native.Nat.{ℕ, _+_, _≤_, _<_}
@@ -10,11 +10,11 @@ use lib.Dec.{ltb}
 use borrow.Author.Tests.{ltb-true, ltb-false}
 use Rattle.model.specs.Update.{Tree}
 use Rattle.model.specs.Update.Tree.{cell}
-use Rattle.terms.specs.Stored.{Ref, Stored, Grown, Over, Outcome, full, fine}
+use Rattle.terms.specs.Stored.{Ref, Grown, Outcome, full, fine}
 use Rattle.terms.proofs.Sets.{grown-ref}
 use Rattle.unroller.specs.Stands.{Proper}
 use Rattle.comparer.specs.Meaning.{Content}
-use Rattle.comparer.specs.Work.{Table, slotOf, Finds, Arity, Shows, CellsHold}
+use Rattle.comparer.specs.Work.{Table, slotOf, Finds, Arity, CellsHold}
 
 -- ---- what `slot` and `arity` answer, where k is their number as an index
 module _ (table : List ℕ) (a c k : ℕ) (e : k ≡ a) where
@@ -31,13 +31,18 @@ module _ (table : List ℕ) (a c k : ℕ) (e : k ≡ a) where
   finds-at d f h i = let w : getD table k 0 ≡ getD table a 0 = ap (λ (x : ℕ). getD table x 0) e in omega arith
 
 module _ (list : List ℕ) (o k : ℕ) (e : k ≡ o) where
-  pub arity-none : 16 ≤ k → (n : ℕ) → Arity list o n
-  unfolding Arity
-  arity-none l n h = absurd (omega arith)
+  pub arity-none : 16 ≤ k → Arity list o 0
+  arity-none l = record { few = omega arith; word = λ h i. absurd (omega arith) }
 
-  pub arity-at : (n : ℕ) → n ≡ getD list (1 + k) 0 → Arity list o n
-  unfolding Arity
-  arity-at n f h = f ∙ ap (λ (x : ℕ). getD list (1 + x) 0) e
+  module _ (n : ℕ) (f : n ≡ getD list (1 + k) 0) where
+    same-word : n ≡ getD list (1 + o) 0
+    same-word = f ∙ ap (λ (x : ℕ). getD list (1 + x) 0) e
+
+    pub arity-many : 4 < n → Arity list o 0
+    arity-many l = record { few = omega arith; word = λ h i. absurd (omega (arith, same-word)) }
+
+    pub arity-at : n ≤ 4 → Arity list o n
+    arity-at l = record { few = l; word = λ h i. same-word }
 
 -- ---- slots
 

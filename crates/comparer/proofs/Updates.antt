@@ -12,7 +12,7 @@ use borrow.Author.Tests.{eqb-true, eqb-false}
 use Rattle.model.specs.Update.{Tree, Update}
 use Rattle.model.specs.Update.Tree.{cell}
 use Rattle.terms.specs.Term.{parts, partsOfAll}
-use Rattle.terms.specs.Stored.{Ref, Stored, Outcome, full, fine}
+use Rattle.terms.specs.Stored.{Ref, Outcome, full, fine}
 use Rattle.terms.proofs.Sets.{grown-none, over-more, after-grown, is-full, is-fine}
 use Rattle.unroller.specs.Stands.{Proper, Three, TreeAt, UpdatesAt}
 use Rattle.comparer.specs.Meaning.{Content, valueOf, free, updated, after, values}

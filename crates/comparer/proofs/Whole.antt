@@ -1,37 +1,35 @@
 -- What `match_lists` answers.
 use mathlib.Core.Path.{_≡_, refl, sym, ap, _∙_, subst, subst₂}
 use mathlib.Core.Logic.{inl}
-use mathlib.Core.Bool.{Bool, true, false, cond}
+use mathlib.Core.Bool.{true}
 use mathlib.Core.List.{List, [], _++_, Memᴰ·append-left}
 use Prim.Native.Nat.{ℕ, _+_, _≤_, _<_}
 use native.Mathlib.Omega.{arith}
 use lib.ListN.{length, getD, take, drop}
-use lib.Dec.{ltb, leb}
 use borrow.Author.Tests.{le-leb, lt-leb, lt-ltb}
-use Rattle.model.specs.Tables.{Array, Tables, cells, arrayAt, local, inside}
-use Rattle.model.specs.Update.{Tree, Update, Listed}
+use Rattle.model.specs.Tables.{Array, cells, arrayAt}
+use Rattle.model.specs.Update.{Tree, Listed}
 use Rattle.model.specs.Update.Tree.{cell}
 use Rattle.model.specs.Reply as model
 use Rattle.model.specs.Memory.{cleared}
 use Rattle.terms.specs.Term.{partsOfAll, termCount}
-use Rattle.terms.specs.Stored.{Stored, Outcome, full, fine}
+use Rattle.terms.specs.Stored.{Stored, Outcome, full}
 use Rattle.terms.proofs.Sets.{after-grown, is-full, is-fine, over-more}
 use Rattle.terms.proofs.Members.{parts-append}
 use Rattle.terms.proofs.Laws.{empty}
 use Rattle.terms.proofs.Number.{too-many, count-right}
-use Rattle.unroller.specs.Allowed.{allowed, allowedTables}
+use Rattle.unroller.specs.Allowed.{allowed}
 use Rattle.unroller.specs.Stands.{basesOf, HeaderAt, Stands}
-use Rattle.unroller.proofs.Parts.{both, within-high, TablesParts, ListParts, list-parts, tables-whole}
+use Rattle.unroller.proofs.Parts.{both, within-high, TablesParts, list-parts, tables-whole}
 use Rattle.unroller.proofs.Stands.{bases-length, bases-step, proper-inside}
 use Rattle.comparer.specs.Meaning.{Content, after, free, values}
-use Rattle.comparer.specs.Match.{compared, comparedSize, nonLocal, firstDifference, agreeAt, writtenTerms, matched}
-use Rattle.comparer.specs.Answers.{replySays}
+use Rattle.comparer.specs.Match.{comparedSize, firstDifference, agreeAt, writtenTerms, matched}
 use Rattle.comparer.specs.Matching.{Matches}
 use Rattle.comparer.specs.declared.reply.Reply.{Reply}
 use Rattle.comparer.specs.declared.reply.Reply.the-variants as reply
 use Rattle.comparer.specs.declared.reply.Side.the-variants as side
-use Rattle.comparer.specs.Work.{Operators, Table, slotOf, Shows, CellsHold, Ready, Applies}
-use Rattle.comparer.specs.Comparing.{Sums, Sides, agree, FirstArray}
+use Rattle.comparer.specs.Work.{Operators, Table, slotOf, Shows, CellsHold, Applies}
+use Rattle.comparer.specs.Comparing.{Sums, FirstArray}
 use Rattle.comparer.proofs.SameTables.{compared-shared}
 use Rattle.comparer.proofs.Shared.{not-local-inside, shared-local, shared-array}
 use Rattle.comparer.proofs.Slots.{slot-in, cells-on, outcome-on}
@@ -40,12 +38,6 @@ use Rattle.comparer.proofs.Halves.{Blank, after-one, after-two, first-l
 
 -- ---- one side
 module _ (list table : List ℕ) (l : Listed) (H : HeaderAt list (l .tables)) (P : TablesParts (l .tables)) (S : Sums list table) where
-  abbrev arrays : List Array
-  arrays = l .tables .arrays
-
-  abbrev bases : List ℕ
-  bases = basesOf (l .tables .arrays)
-
   slots-of : (slots : List ℕ) → length slots ≡ 2048 → Table table (basesOf (l .tables .arrays)) (length slots)
   slots-of slots e = subst (λ (n : ℕ). Table table (basesOf (l .tables .arrays)) n) (sym e) (table-of list (l .tables) H P table S)
 
@@ -106,9 +98,6 @@ module _ (left right : List ℕ) (mask : ℕ) (xs m : List ℕ) (x : Reply) wher
 module _ (left right : List ℕ) (mask : ℕ) (xs m lefts rights : List ℕ) (SL : Sums left lefts) (SR : Sums right rights) (ys m1 : List ℕ) (n : ℕ)
     (A : Applies lefts left 98 (take 2048 xs) m 0 n ys m1) (room : 4096 ≤ length xs) where
   module _ (l : Listed) (L : Stands left l) (p : allowed l ≡ true) (z : xs ≡ cleared xs) (w : 32768 ≤ length m) (v : m ≡ cleared m) where
-    abbrev leftValues : List Tree
-    leftValues = values (l .updates) cell
-
     abbrev LeftHolds : List Tree → Type 0
     LeftHolds vs = CellsHold (basesOf (l .tables .arrays)) ys vs (after free (l .updates) cell)
 

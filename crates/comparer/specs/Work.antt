@@ -1,13 +1,13 @@
 -- Working out the updates of a list as terms of a store: what cells and store hold, and what each function does to them.
-use Prim.Native.Nat.{ℕ, suc, _+_, _≤_, _<_}
+use Prim.Native.Nat.{ℕ, _+_, _≤_, _<_}
 use mathlib.Core.Path.{_≡_}
 use mathlib.Core.Logic.{_⊎_}
-use mathlib.Core.List.{List, [], _∷_}
+use mathlib.Core.List.{List}
 use lib.ListN.{length, getD}
 use Rattle.model.specs.Update.{Tree, Trees, Update}
 use Rattle.model.specs.Update.Tree.{cell}
 use Rattle.terms.specs.Term.{parts, partsOf, partsOfAll}
-use Rattle.terms.specs.Stored.{Ref, Args, Stored, Outcome}
+use Rattle.terms.specs.Stored.{Ref, Args, Stored, Outcome, Puts}
 use Rattle.unroller.specs.Stands.{Proper, many, TreeAt, TreesAt, UpdatesAt}
 use Rattle.comparer.specs.Meaning.{Content, valueOf, valuesOf, free, treesOf, after, values}
 
@@ -49,14 +49,20 @@ pub record Ready (table bases cells m : List ℕ) (count : ℕ) (ts : List Tree)
 abbrev pub worked : Trees → Content Tree → Trees
 worked us h = treesOf (valuesOf free us h)
 
--- the number of arguments of operator o, if there is one
-unfoldable pub Arity : List ℕ → ℕ → ℕ → Type 0
-Arity list o n = o < 16 → n ≡ getD list (1 + o) 0
+-- n is the number of arguments of operator o, if there is one
+pub record Arity (list : List ℕ) (o n : ℕ) : Type 0 where
+  pub few : n ≤ 4
+  pub word : o < 16 → getD list (1 + o) 0 ≤ 4 → n ≡ getD list (1 + o) 0
 
 unfoldable pub Reads : List ℕ → List ℕ → List ℕ → ℕ → ℕ → ℕ → ℕ → ℕ → List ℕ → Type 0
 Reads table cells m count a c count' id m' =
     (bases : List ℕ) (ts : List Tree) (h : Content Tree) → Ready table bases cells m count ts h → Proper bases a c
     → Outcome ts (parts (h a c)) m' count' (λ us. Ref us id (h a c))
+
+-- an operator over the arguments in ids, where there was room for these
+pub record Operates (m : List ℕ) (o at count : ℕ) (ids : List ℕ) (at' count' id : ℕ) (m' : List ℕ) : Type 0 where
+  pub puts : count ≤ 4096 → (at' ≡ at) × Puts m count 17 o ids count' id m'
+  pub full : 4096 < count → 4096 < count'
 
 -- the tree at `at`: its value is stored, with its parts
 unfoldable pub Works : List ℕ → List ℕ → ℕ → ℕ → List ℕ → List ℕ → ℕ → ℕ → ℕ → ℕ → List ℕ → Type 0
@@ -72,7 +78,7 @@ WorksLeaf table list at cells m count at' count' id m' =
 unfoldable pub WorksAll : List ℕ → List ℕ → ℕ → ℕ → List ℕ → List ℕ → ℕ → ℕ → ℕ → List ℕ → ℕ → ℕ → List ℕ → List ℕ → Type 0
 WorksAll table list left at cells m count k n ids at' count' ids' m' =
     (arities bases : List ℕ) (us : Trees) (to : ℕ) (ts : List Tree) (h : Content Tree) → Operators list arities → TreesAt arities bases list us left at to
-    → many us + k ≡ n → n ≤ 4 → length ids ≡ 4 → ((j : ℕ) → k ≤ j → getD ids j 0 ≡ 0) → Ready table bases cells m count ts h
+    → many us + k ≡ n → length ids ≡ 4 → ((j : ℕ) → k ≤ j → getD ids j 0 ≡ 0) → Ready table bases cells m count ts h
     → Outcome ts (partsOf (worked us h)) m' count' (λ vs. (at' ≡ to) × ((j : ℕ) → j < k → getD ids' j 0 ≡ getD ids j 0) × Args vs ids' k (worked us h))
 
 -- the updates at `at`: the cells hold what they leave, and memory every part of every value written

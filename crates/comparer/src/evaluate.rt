@@ -3,7 +3,7 @@ use terms::Kept;
 ghost use mathlib.Core.Path.{_≡_};
 ghost use Prim.Native.Nat.{_+_, _≤_, _<_};
 ghost use lib.ListN.{length};
-ghost use Rattle.comparer.specs.Work.{Finds, Arity, Reads, Works, WorksLeaf, WorksAll, Applies};
+ghost use Rattle.comparer.specs.Work.{Finds, Arity, Reads, Operates, Works, WorksLeaf, WorksAll, Applies};
 
 // The place past a tree, the number of terms, and the id plus 1. A number above 4,096: there is no room.
 struct Step {
@@ -114,7 +114,27 @@ fn arity(list: &[u32], operator: u32) -> usize
     if o >= 16 {
         return 0;
     }
-    wide(list[1 + o])
+    let n = wide(list[1 + o]);
+    if n > 4 {
+        return 0;
+    }
+    n
+}
+
+// The operator over its arguments, where they had room.
+fn operate(terms: &mut [u32], operator: u32, row: Row) -> Step
+    ensures { λ r. ⌜ Operates (now (terms .entry)) operator (row .at) (row .count) (row .ids) (r .at) (r .count) (r .id) (now (terms .exit)) ⌝ }
+{
+    if row.count > 4096 {
+        return no_room();
+    }
+    let ids = row.ids;
+    let p = terms::put(terms, row.count, 17, operator, ids);
+    Step {
+        at: row.at,
+        count: p.count,
+        id: p.id,
+    }
 }
 
 // The tree at `at`, whose operators nest at most `left` deep.
@@ -141,7 +161,7 @@ fn node(
     }
     let o = list[at + 1];
     let n = arity(list, o);
-    let s = args(
+    let row = args(
         list,
         at + 3,
         bases,
@@ -153,16 +173,7 @@ fn node(
         n,
         [0; 4],
     );
-    if s.count > 4096 {
-        return no_room();
-    }
-    let ids = s.ids;
-    let p = terms::put(terms, s.count, 17, o, ids);
-    Step {
-        at: s.at,
-        count: p.count,
-        id: p.id,
-    }
+    operate(terms, o, row)
 }
 
 // The arguments from number k on, of n; `ids` has those before.
@@ -178,45 +189,20 @@ fn args(
     n: usize,
     ids: [u32; 4],
 ) -> Row
-    requires { ⌜ 98 ≤ length (now list) ⌝ }
+    requires { ⌜ (98 ≤ length (now list)) × (n ≤ 4) ⌝ }
     ensures { λ r. ⌜ WorksAll (now (bases .entry)) (now (list .entry)) left at (now (cells .entry)) (now (terms .entry)) count k n ids (r .at) (r .count) (r .ids) (now (terms .exit)) ⌝ }
 {
     if k >= n {
-        return Row {
-            at: at,
-            count: count,
-            ids: ids,
-        };
-    }
-    if k >= 4 {
-        return Row {
-            at: at,
-            count: 4097,
-            ids: ids,
-        };
+        return Row { at, count, ids };
     }
     let s = node(list, at, bases, cells, terms, count, left);
-    if s.count > 4096 {
-        return Row {
-            at: at,
-            count: 4097,
-            ids: ids,
-        };
+    let count = s.count;
+    if count > 4096 {
+        return Row { at, count, ids };
     }
-    let mut more = ids;
-    more[k] = s.id;
-    args(
-        list,
-        s.at,
-        bases,
-        cells,
-        terms,
-        s.count,
-        left,
-        k + 1,
-        n,
-        more,
-    )
+    let mut ids = ids;
+    ids[k] = s.id;
+    args(list, s.at, bases, cells, terms, count, left, k + 1, n, ids)
 }
 
 // Works out the updates one after another. The answer is the number of terms then, or above 4,096 where they have no room.

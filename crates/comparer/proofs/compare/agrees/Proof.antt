@@ -3,9 +3,6 @@ use Rattle.comparer.proofs.Agreeing.{agrees-same, agrees-left, agrees-r
 use borrow.Author.Needs.{needs}
 use Rattle.comparer.proofs.compare.agrees.Statement.{statement}
 use Rattle.comparer.proofs.compare.agrees.Tie as tie
-use Rattle.comparer.proofs.compare.agrees.Reads as reads
-use Rattle.comparer.proofs.compare.agrees.Lts as lts
-use Rattle.terms.proofs.is_start.Reads as is-start-reads
 
 returns : tie.Need-returns
 returns c = agrees-same _ _ _ _ _ (c .if1 .taken)

@@ -4,9 +4,6 @@ use Prim.Native.Nat.{_-_}
 use Rattle.comparer.proofs.Sizes.{SumsTo, sums-none, sums-more, sums-all}
 use Rattle.comparer.proofs.compare.bases_of.Statement.{statement}
 use Rattle.comparer.proofs.compare.bases_of.Tie as tie
-use Rattle.comparer.proofs.compare.bases_of.Reads as reads
-use Rattle.comparer.proofs.compare.bases_of.Lts as lts
-use Rattle.comparer.proofs.compare.size_of.Reads as size-of-reads
 
 abbrev Inv-loop : tie.InvT-loop
 Inv-loop list bases₀ a₀ bases a =

@@ -4,9 +4,6 @@ use Rattle.comparer.proofs.Sizes.{factor-free, factor-big, factor-used}
 use borrow.Author.Needs.{needs}
 use Rattle.comparer.proofs.compare.factor.Statement.{statement}
 use Rattle.comparer.proofs.compare.factor.Tie as tie
-use Rattle.comparer.proofs.compare.factor.Reads as reads
-use Rattle.comparer.proofs.compare.factor.Lts as lts
-use Rattle.comparer.proofs.evaluate.wide.Reads as wide-reads
 
 returns : tie.Need-returns
 returns c = (factor-free _ _ (not-true _ (c .if1 .taken)), omega arith)

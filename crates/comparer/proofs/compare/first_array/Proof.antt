@@ -8,12 +8,6 @@ use Rattle.comparer.specs.Comparing.{FirstArray}
 use Rattle.comparer.proofs.Firsts.{arrays-many, array-end, array-skip, array-differs, array-more}
 use Rattle.comparer.proofs.compare.first_array.Statement.{statement}
 use Rattle.comparer.proofs.compare.first_array.Tie as tie
-use Rattle.comparer.proofs.compare.first_array.Reads as reads
-use Rattle.comparer.proofs.compare.first_array.Lts as lts
-use Rattle.comparer.proofs.compare.first_cell.Reads as first-cell-reads
-use Rattle.comparer.proofs.compare.is_compared.Reads as is-compared-reads
-use Rattle.comparer.proofs.compare.size_of.Reads as size-of-reads
-use Rattle.comparer.proofs.evaluate.wide.Reads as wide-reads
 
 abbrev Inv-loop : tie.InvT-loop
 Inv-loop list mask lefts rights left right terms count a₀ sum₀ a sum =

@@ -8,10 +8,6 @@ use Rattle.comparer.specs.Comparing.{FirstCell}
 use Rattle.comparer.proofs.Firsts.{cells-outside-left, cells-outside-right, cell-end, cell-stop, cell-step}
 use Rattle.comparer.proofs.compare.first_cell.Statement.{statement}
 use Rattle.comparer.proofs.compare.first_cell.Tie as tie
-use Rattle.comparer.proofs.compare.first_cell.Reads as reads
-use Rattle.comparer.proofs.compare.first_cell.Lts as lts
-use Rattle.comparer.proofs.compare.agrees.Reads as agrees-reads
-use Rattle.comparer.proofs.compare.fits.Reads as fits-reads
 
 abbrev Inv-loop : tie.InvT-loop
 Inv-loop left right terms p q array size c₀ c =

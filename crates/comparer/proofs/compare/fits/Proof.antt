@@ -1,8 +1,6 @@
 use Rattle.comparer.proofs.Sizes.{fits-not, fits-by}
 use Rattle.comparer.proofs.compare.fits.Statement.{statement}
 use Rattle.comparer.proofs.compare.fits.Tie as tie
-use Rattle.comparer.proofs.compare.fits.Reads as reads
-use Rattle.comparer.proofs.compare.fits.Lts as lts
 
 returns : tie.Need-returns
 returns c = fits-not _ _ _ (c .if1 .taken)

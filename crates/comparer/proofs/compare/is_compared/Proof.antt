@@ -2,8 +2,6 @@ use Rattle.comparer.proofs.Sizes.{compared-off, compared-out, compared-
 use borrow.Author.Needs.{needs}
 use Rattle.comparer.proofs.compare.is_compared.Statement.{statement}
 use Rattle.comparer.proofs.compare.is_compared.Tie as tie
-use Rattle.comparer.proofs.compare.is_compared.Reads as reads
-use Rattle.comparer.proofs.compare.is_compared.Lts as lts
 
 shr-bits : tie.Need-shr-bits
 shr-bits c = search needs

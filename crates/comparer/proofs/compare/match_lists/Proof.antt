@@ -2,11 +2,6 @@ use Rattle.comparer.proofs.Whole.{match-left, match-right, match-cells,
 use borrow.Author.Needs.{needs}
 use Rattle.comparer.proofs.compare.match_lists.Statement.{statement}
 use Rattle.comparer.proofs.compare.match_lists.Tie as tie
-use Rattle.comparer.proofs.compare.match_lists.Reads as reads
-use Rattle.comparer.proofs.compare.match_lists.Lts as lts
-use Rattle.comparer.proofs.compare.bases_of.Reads as bases-of-reads
-use Rattle.comparer.proofs.compare.first_array.Reads as first-array-reads
-use Rattle.comparer.proofs.evaluate.apply_updates.Reads as apply-updates-reads
 
 returns : tie.Need-returns
 returns c = match-left _ _ _ _ _ _ (c .if1 .taken)

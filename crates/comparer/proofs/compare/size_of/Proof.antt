@@ -3,9 +3,6 @@ use Rattle.comparer.proofs.Sizes.{size-is, two-fit, three-fit}
 use borrow.Author.Needs.{needs}
 use Rattle.comparer.proofs.compare.size_of.Statement.{statement}
 use Rattle.comparer.proofs.compare.size_of.Tie as tie
-use Rattle.comparer.proofs.compare.size_of.Reads as reads
-use Rattle.comparer.proofs.compare.size_of.Lts as lts
-use Rattle.comparer.proofs.compare.factor.Reads as factor-reads
 
 mul-at : tie.Need-mul-at
 mul-at c = search needs

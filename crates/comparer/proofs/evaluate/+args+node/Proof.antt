@@ -1,6 +1,5 @@
-use Rattle.terms.proofs.Laws.{puts}
 use Rattle.comparer.proofs.Leaves.{node-leaf}
-use Rattle.comparer.proofs.Arguments.{node-short, node-deep, node-full, node-put, all-none, all-many, all-full, all-step}
+use Rattle.comparer.proofs.Arguments.{node-short, node-deep, node-done, all-none, all-full, all-step}
 use borrow.Author.Needs.{needs}
 use native.Mathlib.Omega.{arith}
 use Prim.Native.Nat.{ℕ, _<_, _+_, _*_, _-_}
@@ -15,7 +14,7 @@ use Rattle.comparer.proofs.evaluate.+args+node.Lts-node as node-lts
 use Rattle.comparer.proofs.evaluate.arity.Reads as arity-reads
 use Rattle.comparer.proofs.evaluate.leaf.Reads as leaf-reads
 use Rattle.comparer.proofs.evaluate.no_room.Reads as no-room-reads
-use Rattle.terms.proofs.put.Reads as put-reads
+use Rattle.comparer.proofs.evaluate.operate.Reads as operate-reads
 use Rattle.comparer.proofs.evaluate.+args+node.{statement}
 use Rattle.comparer.proofs.evaluate.+args+node.Tie.{close}
 
@@ -41,14 +40,11 @@ abbrev args-claims : ℕ → args-lts.Claims
 args-claims t = (node-below t, node.Post, args-below t, args.Post)
 
 abbrev node-claims : ℕ → node-lts.Claims
-node-claims t = (no-room-reads.Asked, no-room-reads.Learnt, leaf-reads.Asked, leaf-reads.Learnt, arity-reads.Asked, arity-reads.Learnt, args-below t, args.Post, put-reads.Asked, put-reads.Learnt)
+node-claims t = (no-room-reads.Asked, no-room-reads.Learnt, leaf-reads.Asked, leaf-reads.Learnt, arity-reads.Asked, arity-reads.Learnt, args-below t, args.Post, operate-reads.Asked, operate-reads.Learnt)
 
 module _ (t : ℕ) where
   args-returns : args-lts.Need-returns (args-claims t) (args-at t) args.Post
   args-returns c = all-none _ _ _ _ _ _ _ _ _ _ (c .if1 .taken)
-
-  args-returns-2 : args-lts.Need-returns-2 (args-claims t) (args-at t) args.Post
-  args-returns-2 c = all-many _ _ _ _ _ _ _ _ _ _ (c .before .if1 .left) (c .if2 .taken) _ _ _ _
 
   args-node-requires : args-lts.Need-node-requires (args-claims t) (args-at t) args.Post
   args-node-requires c κs = (omega arith, search needs)
@@ -56,14 +52,14 @@ module _ (t : ℕ) where
   args-same-length : args-lts.Need-same-length (args-claims t) (args-at t) args.Post
   args-same-length c = search needs
 
-  args-returns-3 : args-lts.Need-returns-3 (args-claims t) (args-at t) args.Post
-  args-returns-3 c = all-full _ _ _ _ _ _ _ _ _ _ (c .before .before .before .before .before .before .before .if1 .left) _ _ _ _ (c .before .before .before .before .node .ensures) (c .if3 .taken) _ _
+  args-returns-2 : args-lts.Need-returns-2 (args-claims t) (args-at t) args.Post
+  args-returns-2 c = all-full _ _ _ _ _ _ _ _ _ _ (c .before .before .before .before .before .if1 .left) _ _ _ _ (c .before .before .before .node .ensures) (c .if2 .taken) _ _
 
-  args-mul-more : args-lts.Need-mul-more (args-claims t) (args-at t) args.Post
-  args-mul-more c = search needs
+  args-mul-ids : args-lts.Need-mul-ids (args-claims t) (args-at t) args.Post
+  args-mul-ids c = search needs
 
-  args-array-write-more : args-lts.Need-array-write-more (args-claims t) (args-at t) args.Post
-  args-array-write-more c = search needs
+  args-array-write-ids : args-lts.Need-array-write-ids (args-claims t) (args-at t) args.Post
+  args-array-write-ids c = search needs
 
   args-add-args : args-lts.Need-add-args (args-claims t) (args-at t) args.Post
   args-add-args c = omega arith
@@ -74,8 +70,8 @@ module _ (t : ℕ) where
   args-same-length-2 : args-lts.Need-same-length-2 (args-claims t) (args-at t) args.Post
   args-same-length-2 c = search needs
 
-  args-returns-4 : args-lts.Need-returns-4 (args-claims t) (args-at t) args.Post
-  args-returns-4 c = all-step _ _ _ _ _ _ _ _ _ _ (c .before .before .before .before .before .before .before .before .before .before .before .if1 .left) _ _ _ _ (c .before .before .before .before .before .before .before .before .node .ensures) (c .before .before .before .before .if3 .left) (c .before .before .before .before .before .before .before .before .before .before .if2 .left) _ _ _ _ (c .before .before .args2 .ensures)
+  args-returns-3 : args-lts.Need-returns-3 (args-claims t) (args-at t) args.Post
+  args-returns-3 c = all-step _ _ _ _ _ _ _ _ _ _ (c .before .before .before .before .before .before .before .before .before .if1 .left) _ _ _ _ (c .before .before .before .before .before .before .before .node .ensures) (c .before .before .before .before .if2 .left) (c .before .before .before .before .before .before .before .before .before .before .before .before .before .pre .1 .1) _ _ _ _ (c .before .before .args2 .ensures)
 
   node-sub-if1 : node-lts.Need-sub-if1 (node-claims t) (node-at t) node.Post
   node-sub-if1 c = omega arith
@@ -128,23 +124,14 @@ module _ (t : ℕ) where
   node-args-requires : node-lts.Need-args-requires (node-claims t) (node-at t) node.Post
   node-args-requires c κs = (omega arith, search needs)
 
-  node-no-room-requires-3 : node-lts.Need-no-room-requires-3 (node-claims t) (node-at t) node.Post
-  node-no-room-requires-3 c κs = search needs
+  node-operate-requires : node-lts.Need-operate-requires (node-claims t) (node-at t) node.Post
+  node-operate-requires c κs = search needs
 
   node-same-length-2 : node-lts.Need-same-length-2 (node-claims t) (node-at t) node.Post
   node-same-length-2 c = search needs
 
   node-returns-4 : node-lts.Need-returns-4 (node-claims t) (node-at t) node.Post
-  node-returns-4 c = node-full _ _ _ _ _ _ _ (c .before .before .before .before .before .before .before .before .before .before .if2 .left) _ (c .before .before .before .before .before .before .before .arity .ensures) _ _ _ _ (c .before .before .before .before .before .args2 .ensures) (c .before .if4 .taken) _ _ _ (c .no-room3 .ensures)
-
-  node-put-requires : node-lts.Need-put-requires (node-claims t) (node-at t) node.Post
-  node-put-requires c κs = search needs
-
-  node-same-length-3 : node-lts.Need-same-length-3 (node-claims t) (node-at t) node.Post
-  node-same-length-3 c = search needs
-
-  node-returns-5 : node-lts.Need-returns-5 (node-claims t) (node-at t) node.Post
-  node-returns-5 c = node-put _ _ _ _ _ _ _ (c .before .before .before .before .before .before .before .before .before .before .before .before .before .before .if2 .left) _ (c .before .before .before .before .before .before .before .before .before .before .before .arity .ensures) _ _ _ _ (c .before .before .before .before .before .before .before .before .before .args2 .ensures) (c .before .before .before .before .before .if4 .left) _ _ _ (puts _ _ _ _ _ _ _ (c .before .before .put .ensures .0) (c .before .before .put .ensures .1))
+  node-returns-4 c = node-done _ _ _ _ _ _ _ (c .before .before .before .before .before .before .before .before .before .before .before .if2 .left) _ (c .before .before .before .before .before .before .before .before .arity .ensures) _ _ _ _ (c .before .before .before .before .before .before .args2 .ensures) _ _ _ _ (c .before .before .operate .ensures)
 
 pub +args+node-spec : {M : Type 1} → statement M
-+args+node-spec = close μ-args μ-node (λ t. args-lts.spec (args-claims t) (args-at t) args.Post (args-returns t) (args-returns-2 t) (args-node-requires t) (args-same-length t) (args-returns-3 t) (args-mul-more t) (args-array-write-more t) (args-add-args t) (args-args-requires t) (args-same-length-2 t) (args-returns-4 t)) λ t. node-lts.spec (node-claims t) (node-at t) node.Post (node-sub-if1 t) (node-no-room-requires t) (node-returns t) (node-mul-if2 t) (node-shared-slice-read-if2 t) (node-leaf-requires t) (node-same-length t) (node-returns-2 t) (node-no-room-requires-2 t) (node-returns-3 t) (node-add-o t) (node-mul-o t) (node-shared-slice-read-o t) (node-arity-requires t) (node-add-args t) (node-sub-args t) (node-args-requires t) (node-no-room-requires-3 t) (node-same-length-2 t) (node-returns-4 t) (node-put-requires t) (node-same-length-3 t) (node-returns-5 t)
++args+node-spec = close μ-args μ-node (λ t. args-lts.spec (args-claims t) (args-at t) args.Post (args-returns t) (args-node-requires t) (args-same-length t) (args-returns-2 t) (args-mul-ids t) (args-array-write-ids t) (args-add-args t) (args-args-requires t) (args-same-length-2 t) (args-returns-3 t)) λ t. node-lts.spec (node-claims t) (node-at t) node.Post (node-sub-if1 t) (node-no-room-requires t) (node-returns t) (node-mul-if2 t) (node-shared-slice-read-if2 t) (node-leaf-requires t) (node-same-length t) (node-returns-2 t) (node-no-room-requires-2 t) (node-returns-3 t) (node-add-o t) (node-mul-o t) (node-shared-slice-read-o t) (node-arity-requires t) (node-add-args t) (node-sub-args t) (node-args-requires t) (node-operate-requires t) (node-same-length-2 t) (node-returns-4 t)

@@ -8,10 +8,6 @@ use Rattle.comparer.specs.Work.{Applies}
 use Rattle.comparer.proofs.Updates.{upd-end, upd-full, upd-stuck, upd-wild, upd-step}
 use Rattle.comparer.proofs.evaluate.apply_updates.Statement.{statement}
 use Rattle.comparer.proofs.evaluate.apply_updates.Tie as tie
-use Rattle.comparer.proofs.evaluate.apply_updates.Reads as reads
-use Rattle.comparer.proofs.evaluate.apply_updates.Lts as lts
-use Rattle.comparer.proofs.evaluate.node.Reads as node-reads
-use Rattle.comparer.proofs.evaluate.slot.Reads as slot-reads
 
 abbrev Inv-loop : tie.InvT-loop
 Inv-loop list bases cells₀ terms₀ count at₀ n₀ cells terms at n =

@@ -3,10 +3,6 @@ use Rattle.comparer.proofs.Leaves.{leaf-read, leaf-put}
 use borrow.Author.Needs.{needs}
 use Rattle.comparer.proofs.evaluate.leaf.Statement.{statement}
 use Rattle.comparer.proofs.evaluate.leaf.Tie as tie
-use Rattle.comparer.proofs.evaluate.leaf.Reads as reads
-use Rattle.comparer.proofs.evaluate.leaf.Lts as lts
-use Rattle.comparer.proofs.evaluate.read.Reads as read-reads
-use Rattle.terms.proofs.put.Reads as put-reads
 
 mul-code : tie.Need-mul-code
 mul-code c = search needs

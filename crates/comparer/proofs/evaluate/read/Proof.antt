@@ -3,10 +3,6 @@ use Rattle.comparer.proofs.Leaves.{read-out, read-written, read-start}
 use borrow.Author.Needs.{needs}
 use Rattle.comparer.proofs.evaluate.read.Statement.{statement}
 use Rattle.comparer.proofs.evaluate.read.Tie as tie
-use Rattle.comparer.proofs.evaluate.read.Reads as reads
-use Rattle.comparer.proofs.evaluate.read.Lts as lts
-use Rattle.comparer.proofs.evaluate.slot.Reads as slot-reads
-use Rattle.terms.proofs.put.Reads as put-reads
 
 slot-requires : tie.Need-slot-requires
 slot-requires c κs = search needs

@@ -2,9 +2,6 @@ use Rattle.comparer.proofs.Slots.{finds-none, finds-far, finds-at}
 use borrow.Author.Needs.{needs}
 use Rattle.comparer.proofs.evaluate.slot.Statement.{statement}
 use Rattle.comparer.proofs.evaluate.slot.Tie as tie
-use Rattle.comparer.proofs.evaluate.slot.Reads as reads
-use Rattle.comparer.proofs.evaluate.slot.Lts as lts
-use Rattle.comparer.proofs.evaluate.wide.Reads as wide-reads
 
 wide-requires : tie.Need-wide-requires
 wide-requires c κs = search needs
