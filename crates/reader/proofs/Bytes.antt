@@ -28,6 +28,9 @@ little-1 s at = omega arith
 little-2 : (s : List ℕ) (at : ℕ) → getD s at 0 + 256 * getD s (at + 1) 0 ≡ littleEndian 2 s at
 little-2 s at = omega arith
 
+little-3 : (s : List ℕ) (at : ℕ) → getD s at 0 + 256 * (getD s (at + 1) 0 + 256 * getD s (at + 2) 0) ≡ littleEndian 3 s at
+little-3 s at = let p : at + 1 + 1 ≡ at + 2 = omega arith in simp p (omega arith)
+
 little-4 : (s : List ℕ) (at : ℕ) → getD s at 0 + 256 * (getD s (at + 1) 0 + 256 * (getD s (at + 2) 0 + 256 * getD s (at + 3) 0)) ≡ littleEndian 4 s at
 little-4 s at =
     let p : at + 1 + 1 ≡ at + 2 = omega arith in
@@ -50,6 +53,9 @@ module _ (s : List ℕ) (at : ℕ) where
   pub u16-not : leb (at + 2) (length s) ≡ false → no 3 at ≡ u16 s at
   unfolding u16
   u16-not h = field-not 2 s at h
+
+  pub u24-is : leb (at + 3) (length s) ≡ true → got (getD s at 0 + 256 * (getD s (at + 1) 0 + 256 * getD s (at + 2) 0)) (at + 3) ≡ field 3 s at
+  u24-is h = ap (λ (x : ℕ). got x (at + 3)) (little-3 s at) ∙ field-is 3 s at h
 
   pub u32-is : leb (at + 4) (length s) ≡ true →
       got (getD s at 0 + 256 * (getD s (at + 1) 0 + 256 * (getD s (at + 2) 0 + 256 * getD s (at + 3) 0))) (at + 4) ≡ u32 s at

@@ -6,12 +6,12 @@ use mathlib.Core.Bool.{Bool, true, false, not, _&&_, _||_}
 use native.Mathlib.Omega.{arith}
 use native.Mathlib.Nat.{sub-zero, mul-assoc, mul-le-mul}
 use native.Mathlib.Numerals.{sub-one, add-one}
-use lib.ListN.{length, getD}
+use lib.ListN.{length}
 use lib.Dec.{leb, eqb}
 use borrow.Author.Tests.{le-leb, lt-leb, leb-true, eq-eqb, ne-eqb}
 use Rattle.model.specs.Test.{within}
 use Rattle.model.specs.Tables.{Array, Tables, cells, local}
-use Rattle.reader.specs.Field.{Outcome, got, no, Reader, andThen, ask, field, littleEndian, byte, u16, times}
+use Rattle.reader.specs.Field.{Outcome, got, no, Reader, andThen, ask, field, byte, u16, times}
 use Rattle.reader.specs.Grammar.{head, arity, operators, extent, array, arrays, tables}
 use Rattle.reader.specs.Parts.{checked, roleTest, arrayTable, tablesWith, AritiesAre, ExtentsAre, ArrayIs, ArraysAre, Small}
 use Rattle.reader.specs.Entries.{padded, packed, unpacked, noTables, TablesAre}
@@ -20,7 +20,6 @@ use Rattle.reader.specs.declared.header.AritiesRead.{AritiesRead}
 use Rattle.reader.specs.declared.header.ExtentsRead.{ExtentsRead}
 use Rattle.reader.specs.declared.header.ArrayRead.{ArrayRead}
 use Rattle.reader.specs.declared.tables.TablesRead.{TablesRead}
-use Rattle.reader.proofs.Bytes.{field-is, field-not}
 use Rattle.reader.proofs.Steps.{step, stop, asked, denied, whole}
 use Rattle.reader.proofs.Forward.{Held, held-then, held-ask, held-got}
 
@@ -227,34 +226,29 @@ module _ (after : Bool) (before : ℕ) (s : List ℕ) (at : ℕ) where
             ∙ checked-got 7 (within 1 3) s x _ f ∙ checked-got 7 (roleTest after) s at _ e)
 
 -- the mark and the version
-little-3 : (s : List ℕ) (at : ℕ) → getD s at 0 + 256 * (getD s (at + 1) 0 + 256 * getD s (at + 2) 0) ≡ littleEndian 3 s at
-little-3 s at = let p : at + 1 + 1 ≡ at + 2 = omega arith in simp p (omega arith)
-
+-- the mark, then the version
 module _ (s : List ℕ) (at : ℕ) where
-  pub head-short : length s < at + 3 → head s at ≡ no 3 at
+  pub head-short : {k p : ℕ} → field 3 s at ≡ no k p → head s at ≡ no k p
   unfolding head
-  head-short h = rw (sym (field-not 3 s at (lt-leb (at + 3) (length s) h)))
+  head-short e = rw e
 
-  module _ (h : at + 3 ≤ length s) {m : ℕ} (e : m ≡ getD s at 0 + 256 * (getD s (at + 1) 0 + 256 * getD s (at + 2) 0)) where
-    there : field 3 s at ≡ got m (at + 3)
-    there = sym (ap (λ (x : ℕ). got x (at + 3)) (e ∙ little-3 s at) ∙ field-is 3 s at (le-leb (at + 3) (length s) h))
-
+  module _ {m version : ℕ} (e : field 3 s at ≡ got m version) where
     pub head-mark : (m ≡ 5262401 → ⊥) → head s at ≡ no 4 at
     unfolding head
-    head-mark w = rw (there, ne-eqb m 5262401 w)
+    head-mark w = rw (e, ne-eqb m 5262401 w)
 
     module _ (w : m ≡ 5262401) where
-      pub head-cut : {k p : ℕ} → u16 s (at + 3) ≡ no k p → head s at ≡ no k p
+      pub head-cut : {k p : ℕ} → u16 s version ≡ no k p → head s at ≡ no k p
       unfolding head
-      head-cut v = rw (there, eq-eqb m 5262401 w, v)
+      head-cut v = rw (e, eq-eqb m 5262401 w, v)
 
-      pub head-version : {x next : ℕ} → u16 s (at + 3) ≡ got x next → (x ≡ 1 → ⊥) → head s at ≡ no 5 (at + 3)
+      pub head-version : {x next : ℕ} → u16 s version ≡ got x next → (x ≡ 1 → ⊥) → head s at ≡ no 5 version
       unfolding head
-      head-version {x} v u = rw (there, eq-eqb m 5262401 w, v, ne-eqb x 1 u)
+      head-version {x} v u = rw (e, eq-eqb m 5262401 w, v, ne-eqb x 1 u)
 
-      pub head-all : {x next : ℕ} → u16 s (at + 3) ≡ got x next → x ≡ 1 → head s at ≡ got 0 next
+      pub head-all : {x next : ℕ} → u16 s version ≡ got x next → x ≡ 1 → head s at ≡ got 0 next
       unfolding head
-      head-all {x} v u = rw (there, eq-eqb m 5262401 w, v, eq-eqb x 1 u)
+      head-all {x} v u = rw (e, eq-eqb m 5262401 w, v, eq-eqb x 1 u)
 
 -- an answer has one case
 same-next : {a b : ℕ} → place.Next a ≡ place.Next b → a ≡ b

@@ -1,13 +1,14 @@
-// Single fields: a byte, numbers of two and four bytes, signed numbers, a declared number, a loop's step.
+// Single fields: a byte, numbers of two to four bytes, signed numbers, a declared number, a loop's step.
 ghost use mathlib.Core.Path.{_≡_};
-ghost use Prim.Native.Nat.{_+_, _*_};
+ghost use Prim.Native.Nat.{_+_, _-_, _*_};
 ghost use lib.ListN.{length};
 ghost use lib.Dec.{leb};
 ghost use mir.Syntax.{w8, w16};
 ghost use mir.Val.{toZ};
-ghost use Rattle.reader.specs.Field.{byte, u16, u32, i16};
+ghost use Rattle.reader.specs.Field.{field, byte, u16, u32, i16};
 ghost use Rattle.reader.specs.Grammar.{index, step};
 ghost use Rattle.reader.specs.Answers.{fieldSays, signedSays};
+ghost use Rattle.reader.specs.Places.{bytesIn};
 
 // A number and the place past it, or a question's number and place.
 pub enum Field {
@@ -19,6 +20,14 @@ pub enum Field {
 pub enum Signed {
     Is(i16, usize),
     Not(u8, usize),
+}
+
+// How many bytes an unsigned field has.
+pub enum Width {
+    One,
+    Two,
+    Three,
+    Four,
 }
 
 // The place past what was read, or a refusal.
@@ -62,11 +71,25 @@ pub(crate) fn has(s: &[u8], at: usize, n: usize) -> bool
     }
 }
 
+// How many bytes are left from `at` on, 0 where it lies behind the last.
+pub(crate) fn left_at(s: &[u8], at: usize) -> usize
+    ensures { λ r. ⌜ r ≡ length (now (s .entry)) - at ⌝ }
+{
+    if at <= s.len() { s.len() - at } else { 0 }
+}
+
 // Two bytes as a number, the lower first.
 pub(crate) fn pair(a: u8, b: u8) -> u16
     ensures { λ r. ⌜ r ≡ a + 256 * b ⌝ }
 {
     a as u16 + 256 * (b as u16)
+}
+
+// Three bytes as a number, the lowest first.
+fn triple(a: u8, b: u8, c: u8) -> usize
+    ensures { λ r. ⌜ r ≡ a + 256 * (b + 256 * c) ⌝ }
+{
+    a as usize + 256 * (b as usize + 256 * (c as usize))
 }
 
 // Four bytes as a number, the lowest first.
@@ -102,6 +125,17 @@ pub(crate) fn u16_at(s: &[u8], at: usize) -> Field
     }
 }
 
+// As wide as the mark.
+fn u24_at(s: &[u8], at: usize) -> Field
+    ensures { λ r. ⌜ fieldSays r ≡ field 3 (now (s .entry)) at ⌝ }
+{
+    if has(s, at, 3) {
+        Field::Is(triple(s[at], s[at + 1], s[at + 2]), at + 3)
+    } else {
+        Field::Not(3, at)
+    }
+}
+
 // The name of a constant.
 pub fn name_at(s: &[u8], at: usize) -> Field
     ensures { λ r. ⌜ fieldSays r ≡ u32 (now (s .entry)) at ⌝ }
@@ -110,6 +144,18 @@ pub fn name_at(s: &[u8], at: usize) -> Field
         Field::Is(quad(s[at], s[at + 1], s[at + 2], s[at + 3]), at + 4)
     } else {
         Field::Not(3, at)
+    }
+}
+
+// An unsigned field of any width.
+pub(crate) fn number_at(s: &[u8], at: usize, width: Width) -> Field
+    ensures { λ r. ⌜ fieldSays r ≡ field (bytesIn width) (now (s .entry)) at ⌝ }
+{
+    match width {
+        Width::One => byte_at(s, at),
+        Width::Two => u16_at(s, at),
+        Width::Three => u24_at(s, at),
+        Width::Four => name_at(s, at),
     }
 }
 

@@ -1,6 +1,6 @@
-// The head of a file: mark, version, operator table and array table, up to the first item.
+// The head of a file: mark, version, operator table and array table, up to the first item. Its fields are read through `cursor`.
 ghost use mathlib.Core.Path.{_≡_};
-ghost use Prim.Native.Nat.{ℕ, _+_, _*_, _≤_, _<_};
+ghost use Prim.Native.Nat.{ℕ, _≤_, _<_};
 ghost use mathlib.Core.List.{List, [], _∷_};
 ghost use mathlib.Core.Bool.{false};
 ghost use lib.ListN.{length};
@@ -11,42 +11,34 @@ ghost use Rattle.reader.specs.Answers.{ended, placeSays, fieldSays};
 ghost use Rattle.reader.specs.Entries.{padded, packed, noTables, TablesAre};
 ghost use Rattle.reader.specs.Parts.{checked, roleTest, arrayTable, tablesWith, AritiesAre, ExtentsAre, ArrayIs, ArraysAre, withArray};
 ghost use Rattle.reader.specs.declared.fields.Place.the-variants as place;
+use crate::cursor::field_at;
 use crate::fields::Field;
 use crate::fields::Place;
-use crate::fields::byte_at;
-use crate::fields::has;
-use crate::fields::u16_at;
+use crate::fields::Width;
 use crate::tables::Tables;
 use crate::tables::TablesRead;
-
-// Three bytes as a number, the lowest first.
-fn triple(a: u8, b: u8, c: u8) -> usize
-    ensures { λ r. ⌜ r ≡ a + 256 * (b + 256 * c) ⌝ }
-{
-    a as usize + 256 * (b as usize + 256 * (c as usize))
-}
 
 // The mark `ALP` and version 1.
 fn head_end(s: &[u8], at: usize) -> Place
     ensures { λ r. ⌜ placeSays r ≡ ended (head (now (s .entry)) at) ⌝ }
 {
-    if has(s, at, 3) {
-        if triple(s[at], s[at + 1], s[at + 2]) != 0x50_4C_41 {
-            return Place::Not(4, at);
-        }
-        let version = at + 3;
-        match u16_at(s, version) {
-            Field::Not(number, place) => Place::Not(number, place),
-            Field::Is(v, next) => {
-                if v == 1 {
-                    Place::Next(next)
-                } else {
-                    Place::Not(5, version)
+    match field_at(s, at, Width::Three) {
+        Field::Not(number, place) => Place::Not(number, place),
+        Field::Is(mark, version) => {
+            if mark != 0x50_4C_41 {
+                return Place::Not(4, at);
+            }
+            match field_at(s, version, Width::Two) {
+                Field::Not(number, place) => Place::Not(number, place),
+                Field::Is(v, next) => {
+                    if v == 1 {
+                        Place::Next(next)
+                    } else {
+                        Place::Not(5, version)
+                    }
                 }
             }
         }
-    } else {
-        Place::Not(3, at)
     }
 }
 
@@ -88,7 +80,7 @@ fn arities_at(s: &[u8], at: usize, n: usize) -> AritiesRead
 fn role_at(s: &[u8], at: usize, after: bool) -> Field
     ensures { λ r. ⌜ fieldSays r ≡ checked 7 (roleTest after) (now (s .entry)) at ⌝ }
 {
-    match byte_at(s, at) {
+    match field_at(s, at, Width::One) {
         Field::Not(number, place) => Field::Not(number, place),
         Field::Is(x, next) => {
             if x == 3 {
@@ -108,7 +100,7 @@ fn role_at(s: &[u8], at: usize, after: bool) -> Field
 fn count_at(s: &[u8], at: usize, number: u8, low: usize, high: usize) -> Field
     ensures { λ r. ⌜ fieldSays r ≡ checked number (within low high) (now (s .entry)) at ⌝ }
 {
-    match byte_at(s, at) {
+    match field_at(s, at, Width::One) {
         Field::Not(question, place) => Field::Not(question, place),
         Field::Is(x, next) => {
             if low <= x {
@@ -124,7 +116,7 @@ fn count_at(s: &[u8], at: usize, number: u8, low: usize, high: usize) -> Field
 fn extent_at(s: &[u8], at: usize) -> Field
     ensures { λ r. ⌜ fieldSays r ≡ extent (now (s .entry)) at ⌝ }
 {
-    match u16_at(s, at) {
+    match field_at(s, at, Width::Two) {
         Field::Not(number, place) => Field::Not(number, place),
         Field::Is(x, next) => {
             if 1 <= x {

@@ -1,4 +1,5 @@
 // Reads a program file. Plain functions on a slice and a place; each answers what the definition of the same part of the grammar says.
+// `cursor` keeps slice and place together, and the head of a file is read through it.
 ghost use mathlib.Core.Path.{_≡_};
 ghost use Rattle.reader.specs.Grammar.{readProgram};
 ghost use Rattle.reader.specs.Verdicts.{said, verdictSays};
@@ -6,6 +7,7 @@ use crate::fields::Place;
 use crate::header::tables_of;
 use crate::items::items_end;
 
+pub mod cursor;
 pub mod expressions;
 pub mod fields;
 pub mod forms;
