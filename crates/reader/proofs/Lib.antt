@@ -10,5 +10,6 @@ pub mod Nodes
 pub mod Runs
 pub mod Heads
 pub mod Stores
+pub mod Flattened
 pub mod Whole
 pub mod Laws

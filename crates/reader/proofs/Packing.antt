@@ -3,7 +3,10 @@ use mathlib.Core.Path.{_≡_, refl, sym, ap, _∙_}
 use Prim.Native.Nat.{ℕ, zero, suc, _+_, _-_, _*_, _≤_, _<_, min}
 use mathlib.Core.List.{List, [], _∷_, _++_}
 use native.Mathlib.Omega.{arith}
+use mathlib.Core.Bool.{Bool, true, false}
 use lib.ListN.{length, getD, List·getD-eq-default}
+use lib.Dec.{ltb}
+use borrow.Author.Tests.{ltb-true, ltb-false}
 use Rattle.model.specs.Tables.{Array, Tables, arrayAt}
 use Rattle.reader.specs.Entries.{cut, arrayOf, arraysOf, unpacked}
 use Rattle.reader.specs.declared.tables.Tables.{Tables as Packed}
@@ -68,3 +71,26 @@ module _ (t : Packed) where
 
     pub dimensions-out : min (t .arrays) 16 ≤ a → 1 ≡ length (arrayAt (unpacked t .arrays) a .extents)
     dimensions-out h = sym (ap (λ (x : Array). length (x .extents)) (array-out h))
+
+    pub dimensions-few : length (arrayAt (unpacked t .arrays) a .extents) ≤ 3
+    dimensions-few = go (ltb a (min (t .arrays) 16)) refl
+      where
+        go : (b : Bool) → ltb a (min (t .arrays) 16) ≡ b → length (arrayAt (unpacked t .arrays) a .extents) ≤ 3
+        go true e = let h = dimensions-in (ltb-true a (min (t .arrays) 16) e) in omega arith
+        go false e = let h = dimensions-out (ltb-false a (min (t .arrays) 16) e) in omega arith
+
+    module _ (k : ℕ) where
+      pub extent-in : a < length (unpacked t .arrays) → k < length (arrayAt (unpacked t .arrays) a .extents) → getD (t .extents) (3 * a + k) 0 ≡ getD (arrayAt (unpacked t .arrays) a .extents) k 0
+      unfolding arrayOf
+      extent-in h g =
+          let m = arrays-are in
+          let w : a < min (t .arrays) 16 = omega arith in
+          let d = dimensions-in w in
+          sym (ap (λ (x : Array). getD (x .extents) k 0) (array-in w) ∙ getD-cut (min (getD (t .dimensions) a 0) 3) (3 * a) (t .extents) k (omega arith))
+
+      pub extent-none : length (unpacked t .arrays) ≤ a → 0 ≡ getD (arrayAt (unpacked t .arrays) a .extents) k 0
+      extent-none h = let m = arrays-are in sym (ap (λ (x : Array). getD (x .extents) k 0) (array-out (omega arith)) ∙ go k)
+        where
+          go : (k : ℕ) → _≡_ {A = ℕ} (getD (0 ∷ []) k 0) 0
+          go zero = refl
+          go (suc k) = refl

@@ -91,7 +91,7 @@ packed-more ops xs x k r total e h s w a b c d =
     rw (p2, p3, p4, p5, p1)
 
 -- a part of a list, read back
-cut-mid : (n from : ℕ) (p l q : List ℕ) → length l ≡ n → length p ≡ from → cut n from (p ++ (l ++ q)) ≡ l
+pub cut-mid : (n from : ℕ) (p l q : List ℕ) → length l ≡ n → length p ≡ from → cut n from (p ++ (l ++ q)) ≡ l
 unfolding cut
 cut-mid zero from p [] q e h = refl
 cut-mid zero from p (a ∷ l) q e h = absurd (omega arith)

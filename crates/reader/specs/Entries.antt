@@ -68,6 +68,32 @@ arraysOf t (suc n) a = arrayOf t a ∷ arraysOf t n (a + 1)
 unfoldable pub unpacked : Packed → Tables
 unpacked t = record { arities = cut (min (t .operators) 16) 0 (t .arities); arrays = arraysOf t (min (t .arrays) 16) 0 }
 
+-- The walks have the tables as 115 numbers: the number of operators, 16 arities; the number of arrays, 16 roles, 16 numbers of
+-- dimensions, 48 extents; 17 bases. An extent is a number of 16 bits, so one beyond them counts as 65,535.
+unfoldable pub capped : List ℕ → List ℕ
+capped l = map (λ e. min e 65535) l
+
+unfoldable pub viewed : List ℕ → Packed
+viewed l =
+    record {
+      operators = getD l 0 0;
+      arities = cut 16 1 l;
+      arrays = getD l 17 0;
+      roles = cut 16 18 l;
+      dimensions = cut 16 34 l;
+      extents = capped (cut 48 50 l);
+      bases = cut 17 98 l;
+    }
+
+-- the tables that 115 numbers stand for, whatever they are
+unfoldable pub tablesIn : List ℕ → Tables
+tablesIn l = unpacked (viewed l)
+
+-- the 115 numbers of a `Tables`
+unfoldable pub flattened : Packed → List ℕ
+flattened t =
+    t .operators ∷ (cut 16 0 (t .arities) ++ (t .arrays ∷ (cut 16 0 (t .roles) ++ (cut 16 0 (t .dimensions) ++ (cut 48 0 (t .extents) ++ cut 17 0 (t .bases))))))
+
 -- three extents an array, 0 where it has fewer dimensions
 unfoldable pub threes : List Array → List ℕ
 threes [] = []

@@ -6,14 +6,13 @@ ghost use Rattle.reader.specs.Syntax.{count, counts};
 ghost use Rattle.reader.specs.Syntax.Exprs.{none as noArgs, more as moreArgs};
 ghost use Rattle.reader.specs.Grammar.{form, readOf, literalOf, constantOf, node as nodeOf, applied, expression};
 ghost use Rattle.reader.specs.Answers.{through, ended, fieldSays, placeSays};
-ghost use Rattle.reader.specs.Entries.{unpacked};
+ghost use Rattle.reader.specs.Entries.{tablesIn};
 use crate::fields::Field;
 use crate::fields::Place;
 use crate::fields::byte_at;
 use crate::fields::index_at;
 use crate::fields::name_at;
 use crate::forms::form_end;
-use crate::tables::Tables;
 use crate::tables::arity_of;
 use crate::tables::array_count;
 use crate::tables::dimensions_of;
@@ -49,8 +48,8 @@ fn one_node(end: Place) -> Field
     }
 }
 
-fn read_end(s: &[u8], at: usize, tables: Tables, loops: usize) -> Field
-    ensures { λ r. ⌜ fieldSays r ≡ through count (readOf (unpacked «tables») loops (now (s .entry)) at) ⌝ }
+fn read_end(s: &[u8], at: usize, tables: &[usize; 115], loops: usize) -> Field
+    ensures { λ r. ⌜ fieldSays r ≡ through count (readOf (tablesIn (now (tables .entry))) loops (now (s .entry)) at) ⌝ }
 {
     match index_at(s, at, array_count(tables)) {
         Field::Not(number, place) => Field::Not(number, place),
@@ -58,14 +57,14 @@ fn read_end(s: &[u8], at: usize, tables: Tables, loops: usize) -> Field
     }
 }
 
-fn literal_end(s: &[u8], at: usize, tables: Tables, loops: usize) -> Field
-    ensures { λ r. ⌜ fieldSays r ≡ through count (literalOf (unpacked «tables») loops (now (s .entry)) at) ⌝ }
+fn literal_end(s: &[u8], at: usize, tables: &[usize; 115], loops: usize) -> Field
+    ensures { λ r. ⌜ fieldSays r ≡ through count (literalOf (tablesIn (now (tables .entry))) loops (now (s .entry)) at) ⌝ }
 {
     one_node(form_end(s, at, loops))
 }
 
-fn constant_end(s: &[u8], at: usize, tables: Tables, loops: usize) -> Field
-    ensures { λ r. ⌜ fieldSays r ≡ through count (constantOf (unpacked «tables») loops (now (s .entry)) at) ⌝ }
+fn constant_end(s: &[u8], at: usize, tables: &[usize; 115], loops: usize) -> Field
+    ensures { λ r. ⌜ fieldSays r ≡ through count (constantOf (tablesIn (now (tables .entry))) loops (now (s .entry)) at) ⌝ }
 {
     match name_at(s, at) {
         Field::Not(number, place) => Field::Not(number, place),
@@ -74,8 +73,8 @@ fn constant_end(s: &[u8], at: usize, tables: Tables, loops: usize) -> Field
 }
 
 // A node at `at`, in which operators may nest `left` deep: its nodes and its end.
-fn node(s: &[u8], at: usize, tables: Tables, loops: usize, left: usize) -> Field
-    ensures { λ r. ⌜ fieldSays r ≡ through count (nodeOf (unpacked «tables») loops (applied (unpacked «tables») loops left) (now (s .entry)) at) ⌝ }
+fn node(s: &[u8], at: usize, tables: &[usize; 115], loops: usize, left: usize) -> Field
+    ensures { λ r. ⌜ fieldSays r ≡ through count (nodeOf (tablesIn (now (tables .entry))) loops (applied (tablesIn (now (tables .entry))) loops left) (now (s .entry)) at) ⌝ }
 {
     match byte_at(s, at) {
         Field::Not(number, place) => Field::Not(number, place),
@@ -90,8 +89,15 @@ fn node(s: &[u8], at: usize, tables: Tables, loops: usize, left: usize) -> Field
 }
 
 // What follows an operator's code, which stands at `code`.
-fn operator(s: &[u8], code: usize, at: usize, tables: Tables, loops: usize, left: usize) -> Field
-    ensures { λ r. ⌜ fieldSays r ≡ through count (applied (unpacked «tables») loops left code (now (s .entry)) at) ⌝ }
+fn operator(
+    s: &[u8],
+    code: usize,
+    at: usize,
+    tables: &[usize; 115],
+    loops: usize,
+    left: usize,
+) -> Field
+    ensures { λ r. ⌜ fieldSays r ≡ through count (applied (tablesIn (now (tables .entry))) loops left code (now (s .entry)) at) ⌝ }
 {
     if left == 0 {
         return Field::Not(12, code);
@@ -106,8 +112,8 @@ fn operator(s: &[u8], code: usize, at: usize, tables: Tables, loops: usize, left
 }
 
 // n arguments in a row: the nodes of all, and their end.
-fn args(s: &[u8], at: usize, tables: Tables, loops: usize, left: usize, n: usize) -> Field
-    ensures { λ r. ⌜ fieldSays r ≡ through counts (times noArgs moreArgs (nodeOf (unpacked «tables») loops (applied (unpacked «tables») loops left)) n (now (s .entry)) at) ⌝ }
+fn args(s: &[u8], at: usize, tables: &[usize; 115], loops: usize, left: usize, n: usize) -> Field
+    ensures { λ r. ⌜ fieldSays r ≡ through counts (times noArgs moreArgs (nodeOf (tablesIn (now (tables .entry))) loops (applied (tablesIn (now (tables .entry))) loops left)) n (now (s .entry)) at) ⌝ }
 {
     let mut place = at;
     let mut more = n;
@@ -128,8 +134,8 @@ fn args(s: &[u8], at: usize, tables: Tables, loops: usize, left: usize, n: usize
 }
 
 // The expression at `at`: the number of its nodes and the place past it.
-pub fn expression_end(s: &[u8], at: usize, tables: Tables, loops: usize) -> Field
-    ensures { λ r. ⌜ fieldSays r ≡ through count (expression (unpacked «tables») loops (now (s .entry)) at) ⌝ }
+pub fn expression_end(s: &[u8], at: usize, tables: &[usize; 115], loops: usize) -> Field
+    ensures { λ r. ⌜ fieldSays r ≡ through count (expression (tablesIn (now (tables .entry))) loops (now (s .entry)) at) ⌝ }
 {
     node(s, at, tables, loops, 12)
 }

@@ -43,14 +43,14 @@ pub(crate) fn wide(x: u8) -> usize
 }
 
 // Two's complement of a byte.
-pub(crate) fn i8_of(b: u8) -> i8
+pub fn i8_of(b: u8) -> i8
     ensures { λ r. ⌜ r ≡ toZ w8 b ⌝ }
 {
     if b < 128 { b as i8 } else { !((255 - b) as i8) }
 }
 
 // Two's complement of two bytes.
-pub(crate) fn i16_of(w: u16) -> i16
+pub fn i16_of(w: u16) -> i16
     ensures { λ r. ⌜ r ≡ toZ w16 w ⌝ }
 {
     if w < 32768 {
@@ -61,7 +61,7 @@ pub(crate) fn i16_of(w: u16) -> i16
 }
 
 // Whether n bytes stand at `at`; their end may lie beyond any usize.
-pub(crate) fn has(s: &[u8], at: usize, n: usize) -> bool
+pub fn has(s: &[u8], at: usize, n: usize) -> bool
     ensures { λ r. ⌜ r ≡ leb (at + n) (length (now (s .entry))) ⌝ }
 {
     if at <= s.len() {
@@ -79,7 +79,7 @@ pub(crate) fn left_at(s: &[u8], at: usize) -> usize
 }
 
 // Two bytes as a number, the lower first.
-pub(crate) fn pair(a: u8, b: u8) -> u16
+pub fn pair(a: u8, b: u8) -> u16
     ensures { λ r. ⌜ r ≡ a + 256 * b ⌝ }
 {
     a as u16 + 256 * (b as u16)

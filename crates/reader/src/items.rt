@@ -6,7 +6,7 @@ ghost use Rattle.reader.specs.Field.{Reader};
 ghost use Rattle.reader.specs.Syntax.{Items};
 ghost use Rattle.reader.specs.Grammar.{statementOf, loopOf, itemOf, nested, body};
 ghost use Rattle.reader.specs.Answers.{ended, placeSays, fieldSays};
-ghost use Rattle.reader.specs.Entries.{unpacked, continued, itemsStep};
+ghost use Rattle.reader.specs.Entries.{tablesIn, continued, itemsStep};
 use crate::expressions::expression_end;
 use crate::expressions::forms_end;
 use crate::fields::Field;
@@ -15,7 +15,6 @@ use crate::fields::Signed;
 use crate::fields::index_at;
 use crate::fields::step_at;
 use crate::forms::form_end;
-use crate::tables::Tables;
 use crate::tables::array_count;
 use crate::tables::dimensions_of;
 use crate::tables::role_of;
@@ -31,8 +30,8 @@ fn past(field: Field) -> Place
 }
 
 // What follows a statement's code, wherever that stands.
-fn statement_end(s: &[u8], at: usize, tables: Tables, loops: usize) -> Place
-    ensures { λ r. ⌜ ((p : ℕ) → placeSays r ≡ ended (statementOf (unpacked «tables») loops p (now (s .entry)) at)) ⌝ }
+fn statement_end(s: &[u8], at: usize, tables: &[usize; 115], loops: usize) -> Place
+    ensures { λ r. ⌜ ((p : ℕ) → placeSays r ≡ ended (statementOf (tablesIn (now (tables .entry))) loops p (now (s .entry)) at)) ⌝ }
 {
     match index_at(s, at, array_count(tables)) {
         Field::Not(number, place) => Place::Not(number, place),
@@ -65,9 +64,9 @@ fn loop_head_end(s: &[u8], at: usize, loops: usize) -> Place
 }
 
 // The items from `at` on, inside so many loops, where loops and guards may still nest `left` deep.
-fn run(s: &[u8], at: usize, tables: Tables, left: usize, loops: usize) -> Place
+fn run(s: &[u8], at: usize, tables: &[usize; 115], left: usize, loops: usize) -> Place
     requires { ⌜ loops + left ≤ 16 ⌝ }
-    ensures { λ r. ⌜ placeSays r ≡ ended (body (unpacked «tables») (length (now (s .entry))) left loops (now (s .entry)) at) ⌝ }
+    ensures { λ r. ⌜ placeSays r ≡ ended (body (tablesIn (now (tables .entry))) (length (now (s .entry))) left loops (now (s .entry)) at) ⌝ }
 {
     let mut place = at;
     while place < s.len() {
@@ -88,9 +87,9 @@ fn run(s: &[u8], at: usize, tables: Tables, left: usize, loops: usize) -> Place
 }
 
 // What follows an item's code, which stands at `at`.
-fn item(s: &[u8], at: usize, code: u8, tables: Tables, left: usize, loops: usize) -> Place
+fn item(s: &[u8], at: usize, code: u8, tables: &[usize; 115], left: usize, loops: usize) -> Place
     requires { ⌜ (loops + left ≤ 16) × (at < length (now s)) ⌝ }
-    ensures { λ r. ⌜ placeSays r ≡ ended (itemOf (unpacked «tables») (length (now (s .entry))) (nested (unpacked «tables») (length (now (s .entry))) left loops) loops code at (now (s .entry)) (at + 1)) ⌝ }
+    ensures { λ r. ⌜ placeSays r ≡ ended (itemOf (tablesIn (now (tables .entry))) (length (now (s .entry))) (nested (tablesIn (now (tables .entry))) (length (now (s .entry))) left loops) loops code at (now (s .entry)) (at + 1)) ⌝ }
 {
     match code {
         1 => statement_end(s, at + 1, tables, loops),
@@ -101,9 +100,9 @@ fn item(s: &[u8], at: usize, code: u8, tables: Tables, left: usize, loops: usize
 }
 
 // What follows the code of a loop (2) or a guard (3) at `at`: its forms, and a run of its own.
-fn around(s: &[u8], at: usize, code: u8, tables: Tables, left: usize, loops: usize) -> Place
+fn around(s: &[u8], at: usize, code: u8, tables: &[usize; 115], left: usize, loops: usize) -> Place
     requires { ⌜ (loops + left ≤ 16) × (at < length (now s)) ⌝ }
-    ensures { λ r. ⌜ placeSays r ≡ ended (nested (unpacked «tables») (length (now (s .entry))) left loops code at (now (s .entry)) (at + 1)) ⌝ }
+    ensures { λ r. ⌜ placeSays r ≡ ended (nested (tablesIn (now (tables .entry))) (length (now (s .entry))) left loops code at (now (s .entry)) (at + 1)) ⌝ }
 {
     if left == 0 {
         return Place::Not(12, at);
@@ -122,8 +121,8 @@ fn around(s: &[u8], at: usize, code: u8, tables: Tables, left: usize, loops: usi
 }
 
 // The end of a run of items, where loops and guards may still nest `left` deep. No file has more than 8 of either.
-pub fn items_end(s: &[u8], at: usize, tables: Tables, left: usize, loops: usize) -> Place
-    ensures { λ r. ⌜ placeSays r ≡ ended (itemsStep (unpacked «tables») left loops (now (s .entry)) at) ⌝ }
+pub fn items_end(s: &[u8], at: usize, tables: &[usize; 115], left: usize, loops: usize) -> Place
+    ensures { λ r. ⌜ placeSays r ≡ ended (itemsStep (tablesIn (now (tables .entry))) left loops (now (s .entry)) at) ⌝ }
 {
     if left <= 8 {
         if loops <= 8 {

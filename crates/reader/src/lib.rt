@@ -6,6 +6,7 @@ ghost use Rattle.reader.specs.Verdicts.{said, verdictSays};
 use crate::fields::Place;
 use crate::header::tables_of;
 use crate::items::items_end;
+use crate::tables::flat;
 
 pub mod cursor;
 pub mod expressions;
@@ -29,10 +30,10 @@ pub fn read_program(program: &[u8]) -> Verdict
     }
     let read = tables_of(program);
     let answer = read.answer;
-    let tables = read.tables;
+    let tables = flat(read.tables);
     match answer {
         Place::Not(number, place) => Verdict::Refused(number, place),
-        Place::Next(at) => match items_end(program, at, tables, 8, 0) {
+        Place::Next(at) => match items_end(program, at, &tables, 8, 0) {
             Place::Not(number, place) => Verdict::Refused(number, place),
             Place::Next(end) => {
                 if end == program.len() {

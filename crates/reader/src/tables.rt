@@ -1,9 +1,11 @@
-// The operator table and the array table, by value, and what they say of an operator or an array.
+// The operator table and the array table, by value and as the numbers that the walks lend, and what these say of an operator or an
+// array.
 ghost use mathlib.Core.Path.{_≡_};
-ghost use Prim.Native.Nat.{min};
+ghost use Prim.Native.Nat.{ℕ, _+_, _≤_, _<_, min};
 ghost use lib.ListN.{length, getD};
+ghost use lib.Seq.{sets};
 ghost use Rattle.model.specs.Tables.{arrayAt};
-ghost use Rattle.reader.specs.Entries.{unpacked};
+ghost use Rattle.reader.specs.Entries.{cut, viewed, tablesIn, flattened};
 use crate::fields::Place;
 use crate::fields::wide;
 
@@ -25,56 +27,131 @@ pub struct TablesRead {
     pub tables: Tables,
 }
 
+fn wide_word(x: u16) -> usize
+    ensures { λ r. ⌜ (r ≡ x) × (r < 65536) ⌝ }
+{
+    x as usize
+}
+
+fn put_bytes(r: &mut [usize; 115], to: usize, from: [u8; 16])
+    requires { ⌜ to + 16 ≤ 115 ⌝ }
+    ensures { λ _. ⌜ now (r .exit) ≡ sets (now (r .entry)) to (cut 16 0 from) ⌝ }
+{
+    let mut k: usize = 0;
+    while k < 16 {
+        r[to + k] = wide(from[k]);
+        k += 1;
+    }
+}
+
+fn put_extents(r: &mut [usize; 115], from: [u16; 48])
+    ensures puts { λ _. ⌜ now (r .exit) ≡ sets (now (r .entry)) 50 (cut 48 0 from) ⌝ }
+    ensures small { λ _. ⌜ ((i : ℕ) → i < 48 → getD from i 0 < 65536) ⌝ }
+{
+    let mut k: usize = 0;
+    while k < 48 {
+        r[50 + k] = wide_word(from[k]);
+        k += 1;
+    }
+}
+
+fn put_bases(r: &mut [usize; 115], from: [usize; 17])
+    ensures { λ _. ⌜ now (r .exit) ≡ sets (now (r .entry)) 98 (cut 17 0 from) ⌝ }
+{
+    let mut k: usize = 0;
+    while k < 17 {
+        r[98 + k] = from[k];
+        k += 1;
+    }
+}
+
+// The tables as 115 numbers (`viewed` says which stand where): lent, they cost no copy at a call.
+pub fn flat(tables: Tables) -> [usize; 115]
+    ensures numbers { λ r. ⌜ r ≡ flattened «tables» ⌝ }
+    ensures small { λ _. ⌜ ((i : ℕ) → i < 48 → getD («tables» .extents) i 0 < 65536) ⌝ }
+{
+    let arities = tables.arities;
+    let roles = tables.roles;
+    let dimensions = tables.dimensions;
+    let extents = tables.extents;
+    let bases = tables.bases;
+    let mut r = [0usize; 115];
+    r[0] = tables.operators;
+    put_bytes(&mut r, 1, arities);
+    r[17] = tables.arrays;
+    put_bytes(&mut r, 18, roles);
+    put_bytes(&mut r, 34, dimensions);
+    put_extents(&mut r, extents);
+    put_bases(&mut r, bases);
+    r
+}
+
 fn at_most(n: usize, most: usize) -> usize
     ensures { λ r. ⌜ r ≡ min n most ⌝ }
 {
     if n < most { n } else { most }
 }
 
-pub fn operator_count(tables: Tables) -> usize
-    ensures { λ r. ⌜ r ≡ length (unpacked «tables» .arities) ⌝ }
+pub fn operator_count(tables: &[usize; 115]) -> usize
+    ensures { λ r. ⌜ r ≡ length (tablesIn (now (tables .entry)) .arities) ⌝ }
 {
-    at_most(tables.operators, 16)
+    at_most(tables[0], 16)
 }
 
-pub fn array_count(tables: Tables) -> usize
-    ensures { λ r. ⌜ r ≡ length (unpacked «tables» .arrays) ⌝ }
+pub fn array_count(tables: &[usize; 115]) -> usize
+    ensures { λ r. ⌜ r ≡ length (tablesIn (now (tables .entry)) .arrays) ⌝ }
 {
-    at_most(tables.arrays, 16)
+    at_most(tables[17], 16)
 }
 
 // The arity of an operator; 0 where it is not declared.
-pub fn arity_of(tables: Tables, operator: usize) -> usize
-    ensures { λ r. ⌜ r ≡ getD (unpacked «tables» .arities) operator 0 ⌝ }
+pub fn arity_of(tables: &[usize; 115], operator: usize) -> usize
+    ensures { λ r. ⌜ r ≡ getD (tablesIn (now (tables .entry)) .arities) operator 0 ⌝ }
 {
-    if operator < at_most(tables.operators, 16) {
-        let arities = tables.arities;
-        wide(arities[operator])
+    if operator < operator_count(tables) {
+        tables[1 + operator]
     } else {
         0
     }
 }
 
 // The role of an array; an undeclared one counts as a local.
-pub fn role_of(tables: Tables, array: usize) -> usize
-    ensures { λ r. ⌜ r ≡ arrayAt (unpacked «tables» .arrays) array .role ⌝ }
+pub fn role_of(tables: &[usize; 115], array: usize) -> usize
+    ensures { λ r. ⌜ r ≡ arrayAt (tablesIn (now (tables .entry)) .arrays) array .role ⌝ }
 {
-    if array < at_most(tables.arrays, 16) {
-        let roles = tables.roles;
-        wide(roles[array])
+    if array < array_count(tables) {
+        tables[18 + array]
     } else {
         3
     }
 }
 
 // The number of an array's dimensions; an undeclared one has one.
-pub fn dimensions_of(tables: Tables, array: usize) -> usize
-    ensures { λ r. ⌜ r ≡ length (arrayAt (unpacked «tables» .arrays) array .extents) ⌝ }
+pub fn dimensions_of(tables: &[usize; 115], array: usize) -> usize
+    ensures { λ r. ⌜ r ≡ length (arrayAt (tablesIn (now (tables .entry)) .arrays) array .extents) ⌝ }
 {
-    if array < at_most(tables.arrays, 16) {
-        let dimensions = tables.dimensions;
-        at_most(wide(dimensions[array]), 3)
+    if array < array_count(tables) {
+        at_most(tables[34 + array], 3)
     } else {
         1
     }
+}
+
+// 0 where the array is not declared, or has fewer dimensions.
+pub fn extent_of(tables: &[usize; 115], array: usize, dimension: usize) -> usize
+    ensures { λ r. ⌜ (r ≡ getD (arrayAt (tablesIn (now (tables .entry)) .arrays) array .extents) dimension 0) × (r < 65536) ⌝ }
+{
+    if array < array_count(tables) {
+        if dimension < dimensions_of(tables, array) {
+            return at_most(tables[50 + 3 * array + dimension], 65535);
+        }
+    }
+    0
+}
+
+// The number of cells before an array; 0 for one beyond the last.
+pub fn base_of(tables: &[usize; 115], array: usize) -> usize
+    ensures { λ r. ⌜ r ≡ getD (viewed (now (tables .entry)) .bases) array 0 ⌝ }
+{
+    if array < 17 { tables[98 + array] } else { 0 }
 }

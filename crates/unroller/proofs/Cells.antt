@@ -1,28 +1,24 @@
 -- Numbers as words, and cells by their subscripts, as the code works them out.
 use mathlib.Core.Path.{_≡_, refl, sym, ap, _∙_, subst}
-use Prim.Native.Nat.{ℕ, zero, suc, _+_, _-_, _*_, _≤_, _<_, min}
+use Prim.Native.Nat.{ℕ, zero, suc, _+_, _-_, _*_, _≤_, _<_}
 use native.Mathlib.Omega.{arith}
 use native.Mathlib.Numerals.{add-one}
 use native.Mathlib.Nat.{mul-le-mul, add-mul}
 use mathlib.Core.List.{List, [], _∷_}
 use mathlib.Core.Bool.{Bool, true, false, false≢true}
-use lib.ListN.{length, getD, drop, take, length-drop, List·getD-eq-default}
+use lib.ListN.{length, getD, drop, take, length-drop}
 use lib.Seq.{drop-cons}
 use lib.Dec.{T, ltb, leb}
 use lib.IntN.{ℤ, pos, negsuc, natAbs, _-ℤ_}
 use lib.Signed.{ltZ, nonNeg}
-use borrow.Author.Tests.{ltb-true, ltb-false, le-ltb, leb-true}
+use borrow.Author.Tests.{ltb-true, le-ltb, leb-true}
 use mir.Syntax.{w32, w64}
 use mir.Val.{toZ, ofZ, SFits, Fits}
 use mir.Facts.{toZ-ofZ}
-use Rattle.model.specs.Tables.{Array, arrayAt}
 use Rattle.model.proofs.Abs.{sub-pos}
 use Rattle.reader.specs.Field.{got, times}
 use Rattle.reader.specs.Grammar.{form}
-use Rattle.reader.specs.Entries.{arrayOf, unpacked}
-use Rattle.reader.specs.declared.tables.Tables.{Tables as Packed}
 use Rattle.reader.proofs.Binds.{read-by, got-is}
-use Rattle.reader.proofs.Packing.{getD-cut, arrays-are, array-in, array-out, dimensions-in, dimensions-out}
 use Rattle.unroller.specs.Run.{Ran, ok, stop, _>>=_, fits32, worked, inExtent, cellFrom}
 use Rattle.unroller.specs.Forms.{ValueIs, Values}
 use Rattle.unroller.specs.Writes.{CellIs, Below, InExtent, Subscript, CellsFrom}
@@ -203,34 +199,3 @@ cell-fits k n e c h l g m = go k h (grows k n e c l g m)
     go (suc zero) h q = omega arith
     go (suc (suc zero)) h q = omega arith
     go (suc (suc (suc k))) h q = absurd (omega arith)
-
--- extents of packed tables
-module _ (t : Packed) (a : ℕ) where
-  pub dimensions-few : length (arrayAt (unpacked t .arrays) a .extents) ≤ 3
-  dimensions-few = go (ltb a (min (t .arrays) 16)) refl
-    where
-      go : (b : Bool) → ltb a (min (t .arrays) 16) ≡ b → length (arrayAt (unpacked t .arrays) a .extents) ≤ 3
-      go true e = let h = dimensions-in t a (ltb-true a (min (t .arrays) 16) e) in omega arith
-      go false e = let h = dimensions-out t a (ltb-false a (min (t .arrays) 16) e) in omega arith
-
-  module _ (k : ℕ) where
-    pub extent-room : a < length (unpacked t .arrays) → k < length (arrayAt (unpacked t .arrays) a .extents) → 3 * a + k < 48
-    extent-room h g = let m = arrays-are t in let n = dimensions-few in omega arith
-
-    pub extent-in : a < length (unpacked t .arrays) → k < length (arrayAt (unpacked t .arrays) a .extents) → getD (t .extents) (3 * a + k) 0 ≡ getD (arrayAt (unpacked t .arrays) a .extents) k 0
-    unfolding arrayOf
-    extent-in h g =
-        let m = arrays-are t in
-        let w : a < min (t .arrays) 16 = omega arith in
-        let d = dimensions-in t a w in
-        sym (ap (λ (x : Array). getD (x .extents) k 0) (array-in t a w) ∙ getD-cut (min (getD (t .dimensions) a 0) 3) (3 * a) (t .extents) k (omega arith))
-
-    pub extent-out : length (arrayAt (unpacked t .arrays) a .extents) ≤ k → 0 ≡ getD (arrayAt (unpacked t .arrays) a .extents) k 0
-    extent-out h = sym (List·getD-eq-default (arrayAt (unpacked t .arrays) a .extents) 0 h)
-
-    pub extent-none : length (unpacked t .arrays) ≤ a → 0 ≡ getD (arrayAt (unpacked t .arrays) a .extents) k 0
-    extent-none h = let m = arrays-are t in sym (ap (λ (x : Array). getD (x .extents) k 0) (array-out t a (omega arith)) ∙ go k)
-      where
-        go : (k : ℕ) → _≡_ {A = ℕ} (getD (0 ∷ []) k 0) 0
-        go zero = refl
-        go (suc k) = refl

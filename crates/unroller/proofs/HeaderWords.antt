@@ -1,7 +1,6 @@
 -- The header's words: written run by run, and the same as the layout's.
 use mathlib.Core.Path.{_≡_, refl, sym, ap, ap₂, _∙_, subst}
 use Prim.Native.Nat.{ℕ, zero, suc, _+_, _-_, _*_, _≤_, _<_}
-use native.Mathlib.Nat.{add-zero}
 use native.Mathlib.Numerals.{add-one}
 use native.Mathlib.Omega.{arith}
 use mathlib.Core.List.{List, [], _∷_, _++_, append-assoc, append-nil, map}
@@ -15,6 +14,7 @@ use Rattle.model.specs.Tables.{Array, Tables}
 use Rattle.reader.specs.Entries.{cut, threes, unpacked, packed}
 use Rattle.reader.specs.declared.tables.Tables.{Tables as Packed}
 use Rattle.reader.proofs.Packing.{length-cut, getD-cut}
+use Rattle.reader.proofs.Flattened.{sets-append, cut-more, cut-end}
 use Rattle.unroller.specs.Allowed.{allowedArray}
 use Rattle.unroller.specs.Layout.{padded, arrayWords, arraysWords, tableWords}
 use Rattle.unroller.specs.UnrollAnswers.{rows, headWords}
@@ -22,23 +22,6 @@ use Rattle.unroller.proofs.Parts.{both, within-high, array-parts, Table
 use Rattle.unroller.proofs.Encode.{padded-length}
 
 -- ---- writing
-sets-append : (l : List ℕ) (i : ℕ) (xs ys : List ℕ) → sets l i (xs ++ ys) ≡ sets (sets l i xs) (i + length xs) ys
-sets-append l i [] ys = ap (λ (k : ℕ). sets l k ys) (sym (add-zero i))
-sets-append l i (x ∷ xs) ys =
-    let e : suc i + length xs ≡ i + suc (length xs) = omega arith in
-    sets-append (set l i x) (suc i) xs ys ∙ ap (λ (k : ℕ). sets (sets (set l i x) (suc i) xs) k ys) e
-
--- n words from number k of a list on are still to be written at i
-pub cut-more : (l : List ℕ) (i j k n : ℕ) (ar : List ℕ) → 0 < n → j ≡ i + 1 → sets (set l i (getD ar k 0)) j (cut (n - 1) (k + 1) ar) ≡ sets l i (cut n k ar)
-unfolding cut
-cut-more l i j k zero ar h e = absurd (omega arith)
-cut-more l i j k (suc n) ar h e = let d : suc n - 1 ≡ n = omega arith in let q : j ≡ suc i = omega arith in rw (d, q)
-
-pub cut-end : (l : List ℕ) (i k : ℕ) (ar : List ℕ) (n : ℕ) → n ≡ 0 → sets l i (cut n k ar) ≡ l
-unfolding cut
-cut-end l i k ar zero e = refl
-cut-end l i k ar (suc n) e = absurd (omega arith)
-
 pub row-put : (l : List ℕ) (at a b c d e : ℕ) → set (set (set (set (set l at a) (at + 1) b) (at + 2) c) (at + 3) d) (at + 4) e ≡ sets l at (a ∷ b ∷ c ∷ d ∷ e ∷ [])
 row-put l at a b c d e =
     let p : at + 1 ≡ suc at = omega arith in

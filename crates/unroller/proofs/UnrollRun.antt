@@ -15,12 +15,13 @@ use Rattle.reader.specs.Field.{Outcome, got, no}
 use Rattle.reader.specs.Syntax.{Items, Program}
 use Rattle.reader.specs.Grammar.{tables, body, items, itemOf, nested, program, readProgram}
 use Rattle.reader.specs.Answers.{placed}
-use Rattle.reader.specs.Entries.{unpacked, packed, bases, TablesAre, packedIn}
+use Rattle.reader.specs.Entries.{unpacked, packed, bases, TablesAre, packedIn, viewed, tablesIn, flattened}
 use Rattle.reader.specs.declared.tables.Tables.{Tables as Packed}
 use Rattle.reader.specs.declared.tables.TablesRead.{TablesRead}
 use Rattle.reader.specs.declared.fields.Place.{Place}
 use Rattle.reader.specs.declared.fields.Place.the-variants as place
 use Rattle.reader.proofs.Binds.{read-by, asked-by}
+use Rattle.reader.proofs.Flattened.{Words, tables-flat, bases-flat}
 use Rattle.unroller.specs.Run.{Ran, ok, stop, Done, runs, nothing, runProgram}
 use Rattle.unroller.specs.Layout.{padded, tableWords, words, layout}
 use Rattle.unroller.specs.Stands.{basesFrom, basesOf}
@@ -31,7 +32,7 @@ use Rattle.unroller.specs.declared.walk.Progress.{Progress}
 use Rattle.unroller.specs.declared.walk.Walk.{Walk}
 use Rattle.unroller.specs.declared.walk.Walk.the-variants as walk
 use Rattle.unroller.specs.declared.entry.Unrolled.the-variants as unrolled
-use Rattle.unroller.proofs.Parts.{TablesParts, tables-whole}
+use Rattle.unroller.proofs.Parts.{TablesParts, tables-whole, within-high}
 use Rattle.unroller.proofs.Laws.{padded-sets, table-length}
 use Rattle.unroller.proofs.Accepted.{tables-allowed}
 use Rattle.unroller.proofs.HeaderWords.{head-words}
@@ -67,6 +68,11 @@ zeros-behind (x ∷ l) k (suc i) = zeros-behind l k i
 packed-based : (t : Tables) → Based t (packed t .bases)
 unfolding packed basesOf
 packed-based t a h = zeros-behind (bases 0 (t .arrays)) (17 - length (bases 0 (t .arrays))) a ∙ ap (λ (l : List ℕ). getD l a 0) (bases-same 0 (t .arrays))
+
+-- the same bases among the 115 numbers that the walk has
+flat-based : (t : Tables) (T : Packed) (numbers : List ℕ) → numbers ≡ flattened T → T ≡ packed t → length (t .arrays) ≤ 16 → Based t (viewed numbers .bases)
+flat-based t T numbers made holds few a h =
+    ap (λ (l : List ℕ). getD (viewed l .bases) a 0) made ∙ bases-flat T a (omega arith) ∙ ap (λ (T : Packed). getD (T .bases) a 0) holds ∙ packed-based t a h
 
 -- the tables as the code has them
 module _ (s : List ℕ) (r : TablesRead) (are : TablesAre (tables s 0) r) (t : Tables) (m : ℕ) (e : tables s 0 ≡ got t m) where
@@ -146,19 +152,19 @@ module _ (s list : List ℕ) (r : TablesRead) (are : TablesAre (tables s 0) r) w
   unfolding Unrolls
   run-not k q c list′ p next e z = program-by s e λ t m js end e1 e2 x. absurd (read-not s r are t m e1 k q c)
 
-  module _ (long : 32768 ≤ length list) (first : ℕ) (c : r .answer ≡ place.Next first) (list₁ list₂ flags₂ : List ℕ) (h : list₁ ≡ sets list 0 (headWords (r .tables)))
+  module _ (long : 32768 ≤ length list) (first : ℕ) (c : r .answer ≡ place.Next first) (numbers : List ℕ) (made : numbers ≡ flattened (r .tables)) (small : Words 48 (r .tables .extents)) (list₁ list₂ flags₂ : List ℕ) (h : list₁ ≡ sets list 0 (headWords (r .tables)))
       (same-length : length list₂ ≡ length list) (w₀ : Walk)
-      (ran : RunsItems s first (unpacked (r .tables)) (r .tables .bases) 8 0 (replicate 8 (pos 0)) (record { rounds = 0; nodes = 0; updates = 0 }) list₁ (replicate 2048 0) w₀ list₂ flags₂) where
+      (ran : RunsItems s first (tablesIn numbers) (viewed numbers .bases) 8 0 (replicate 8 (pos 0)) (record { rounds = 0; nodes = 0; updates = 0 }) list₁ (replicate 2048 0) w₀ list₂ flags₂) where
     walked : (t : Tables) (m : ℕ) (js : Items) (end : ℕ) → tables s 0 ≡ got t m → body t (length s) 8 0 s m ≡ got js end → list ≡ cleared list
         → Walked t end (runs js t [] nothing) w₀ list₂ flags₂
     unfolding RunsItems body
     walked t m js end e1 e2 z =
-        let x = read-tables s r are t m e1 first c in
+        let x = ap tablesIn made ∙ tables-flat (r .tables) small ∙ read-tables s r are t m e1 first c in
         let y = read-first s r are t m e1 first c in
-        let v : RunsItems s first t (packed t .bases) 8 0 (replicate 8 (pos 0)) (record { rounds = 0; nodes = 0; updates = 0 }) list₁ (replicate 2048 0) w₀ list₂ flags₂ =
-        subst (λ (u : Tables). RunsItems s first u (packed t .bases) 8 0 (replicate 8 (pos 0)) (record { rounds = 0; nodes = 0; updates = 0 }) list₁ (replicate 2048 0) w₀ list₂ flags₂) x
-        (subst (λ (T : Packed). RunsItems s first (unpacked (r .tables)) (T .bases) 8 0 (replicate 8 (pos 0)) (record { rounds = 0; nodes = 0; updates = 0 }) list₁ (replicate 2048 0) w₀ list₂ flags₂) (holds s r are t m e1) ran) in
-        v js end (length s) nothing (ap (λ (at : ℕ). body t (length s) 8 0 s at) y ∙ e2) (omega arith) refl (packed-based t) (begins s r are t m e1 first c list list₁ long z h)
+        let b = flat-based t (r .tables) numbers made (holds s r are t m e1) (within-high 1 16 (length (t .arrays)) (tables-allowed s 0 e1 .count)) in
+        let v : RunsItems s first t (viewed numbers .bases) 8 0 (replicate 8 (pos 0)) (record { rounds = 0; nodes = 0; updates = 0 }) list₁ (replicate 2048 0) w₀ list₂ flags₂ =
+        subst (λ (u : Tables). RunsItems s first u (viewed numbers .bases) 8 0 (replicate 8 (pos 0)) (record { rounds = 0; nodes = 0; updates = 0 }) list₁ (replicate 2048 0) w₀ list₂ flags₂) x ran in
+        v js end (length s) nothing (ap (λ (at : ℕ). body t (length s) 8 0 s at) y ∙ e2) (omega arith) refl b (begins s r are t m e1 first c list list₁ long z h)
 
     pub run-on : (to : ℕ) (d : Progress) → w₀ ≡ walk.On to d → Unrolls s list (unrolled.Updates (d .updates)) list₂
     unfolding Unrolls runProgram

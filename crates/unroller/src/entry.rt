@@ -13,6 +13,7 @@ use reader::Verdict;
 use reader::fields::Place;
 use reader::header::tables_of;
 use reader::read_program;
+use reader::tables::flat;
 
 // The number of updates in the list; or a question's number and place; or the list is too short, 25.
 pub enum Unrolled {
@@ -33,6 +34,7 @@ fn run(program: &[u8], list: &mut [u32]) -> Unrolled
         Place::Not(number, place) => Unrolled::Refused(number, place),
         Place::Next(first) => {
             header(tables, list);
+            let numbers = flat(tables);
             let mut flags = [0u8; 2048];
             let none = Progress {
                 rounds: 0,
@@ -42,7 +44,7 @@ fn run(program: &[u8], list: &mut [u32]) -> Unrolled
             match items(
                 program,
                 first,
-                tables,
+                &numbers,
                 8,
                 0,
                 [0i16; 8],

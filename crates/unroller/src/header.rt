@@ -1,15 +1,13 @@
 // The header of an update list (docs/LAYOUT.md), written into a cleared list.
 ghost use mathlib.Core.Path.{_≡_};
 ghost use mathlib.Core.List.{[], _∷_};
-ghost use Prim.Native.Nat.{_+_, _≤_};
+ghost use Prim.Native.Nat.{_+_, _≤_, min};
 ghost use lib.ListN.{length};
 ghost use lib.Seq.{sets};
 ghost use Rattle.model.specs.Memory.{cleared};
 ghost use Rattle.reader.specs.Entries.{cut};
 ghost use Rattle.unroller.specs.UnrollAnswers.{rows, headWords};
 use reader::tables::Tables;
-use reader::tables::array_count;
-use reader::tables::operator_count;
 
 fn word_of_byte(x: u8) -> u32
     ensures { λ r. ⌜ r ≡ x ⌝ }
@@ -21,6 +19,13 @@ fn word_of_extent(x: u16) -> u32
     ensures { λ r. ⌜ r ≡ x ⌝ }
 {
     x as u32
+}
+
+// A count: at most 16 operators or arrays count.
+fn word_of_count(x: usize) -> u32
+    ensures { λ r. ⌜ r ≡ min x 16 ⌝ }
+{
+    if x < 16 { x as u32 } else { 16 }
 }
 
 pub(crate) fn clear(list: &mut [u32])
@@ -73,7 +78,6 @@ fn put_rows(roles: [u8; 16], dimensions: [u8; 16], extents: [u16; 48], list: &mu
     }
 }
 
-// Both counts are at most 16, so they are words.
 pub(crate) fn header(tables: Tables, list: &mut [u32])
     requires { ⌜ 98 ≤ length (now list) ⌝ }
     ensures { λ _. ⌜ now (list .exit) ≡ sets (now (list .entry)) 0 (headWords «tables») ⌝ }
@@ -82,8 +86,8 @@ pub(crate) fn header(tables: Tables, list: &mut [u32])
     let roles = tables.roles;
     let dimensions = tables.dimensions;
     let extents = tables.extents;
-    list[0] = operator_count(tables) as u32;
+    list[0] = word_of_count(tables.operators);
     put_arities(arities, list);
-    list[17] = array_count(tables) as u32;
+    list[17] = word_of_count(tables.arrays);
     put_rows(roles, dimensions, extents, list);
 }

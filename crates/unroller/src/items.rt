@@ -4,7 +4,7 @@ ghost use mathlib.Core.Path.{_≡_};
 ghost use Prim.Native.Nat.{_+_, _≤_, _<_};
 ghost use lib.ListN.{length};
 ghost use lib.IntN.{pos};
-ghost use Rattle.reader.specs.Entries.{unpacked};
+ghost use Rattle.reader.specs.Entries.{viewed, tablesIn};
 ghost use Rattle.unroller.specs.Run.{fits16};
 ghost use Rattle.unroller.specs.Walk.{RunsItem, RunsItems};
 ghost use Rattle.unroller.specs.WalkItems.{Steps, Ranges, Moves, Passes, RunsNested, RunsRound, RunsRounds};
@@ -18,7 +18,6 @@ use reader::fields::Place;
 use reader::fields::Signed;
 use reader::fields::step_at;
 use reader::items::items_end;
-use reader::tables::Tables;
 
 // A loop's start, end and step, and the place of its body; or a question's number.
 enum Range {
@@ -72,12 +71,12 @@ fn range_at(program: &[u8], at: usize, loops: usize, indices: [i16; 8]) -> Range
 fn passed(
     program: &[u8],
     at: usize,
-    tables: Tables,
+    tables: &[usize; 115],
     left: usize,
     loops: usize,
     progress: Progress,
 ) -> Walk
-    ensures { λ r. ⌜ Passes (now (program .entry)) at (unpacked «tables») left loops progress r ⌝ }
+    ensures { λ r. ⌜ Passes (now (program .entry)) at (tablesIn (now (tables .entry))) left loops progress r ⌝ }
 {
     match items_end(program, at, tables, left, loops) {
         Place::Not(number, place) => Walk::No(number, place),
@@ -89,7 +88,7 @@ fn passed(
 pub(crate) fn items(
     program: &[u8],
     start: usize,
-    tables: Tables,
+    tables: &[usize; 115],
     left: usize,
     loops: usize,
     indices: [i16; 8],
@@ -98,7 +97,7 @@ pub(crate) fn items(
     list: &mut [u32],
 ) -> Walk
     requires { ⌜ loops + left ≤ 8 ⌝ }
-    ensures { λ r. ⌜ RunsItems (now (program .entry)) start (unpacked «tables») («tables» .bases) left loops indices progress (now (list .entry)) (now (flags .entry)) r (now (list .exit)) (now (flags .exit)) ⌝ }
+    ensures { λ r. ⌜ RunsItems (now (program .entry)) start (tablesIn (now (tables .entry))) (viewed (now (tables .entry)) .bases) left loops indices progress (now (list .entry)) (now (flags .entry)) r (now (list .exit)) (now (flags .exit)) ⌝ }
 {
     let mut place = start;
     let mut done = progress;
@@ -140,7 +139,7 @@ fn item(
     program: &[u8],
     at: usize,
     code: u8,
-    tables: Tables,
+    tables: &[usize; 115],
     left: usize,
     loops: usize,
     indices: [i16; 8],
@@ -149,7 +148,7 @@ fn item(
     list: &mut [u32],
 ) -> Walk
     requires { ⌜ (loops + left ≤ 8) × (at < length (now program)) ⌝ }
-    ensures { λ r. ⌜ RunsItem (now (program .entry)) at code (unpacked «tables») («tables» .bases) left loops indices progress (now (list .entry)) (now (flags .entry)) r (now (list .exit)) (now (flags .exit)) ⌝ }
+    ensures { λ r. ⌜ RunsItem (now (program .entry)) at code (tablesIn (now (tables .entry))) (viewed (now (tables .entry)) .bases) left loops indices progress (now (list .entry)) (now (flags .entry)) r (now (list .exit)) (now (flags .exit)) ⌝ }
 {
     match code {
         1 => statement(program, at, tables, loops, indices, progress, flags, list),
@@ -183,7 +182,7 @@ fn item(
 fn run_guard(
     program: &[u8],
     at: usize,
-    tables: Tables,
+    tables: &[usize; 115],
     left: usize,
     loops: usize,
     indices: [i16; 8],
@@ -192,7 +191,7 @@ fn run_guard(
     list: &mut [u32],
 ) -> Walk
     requires { ⌜ (loops + left ≤ 8) × (at < length (now program)) ⌝ }
-    ensures { λ r. ⌜ RunsNested (now (program .entry)) at 3 (unpacked «tables») («tables» .bases) left loops indices progress (now (list .entry)) (now (flags .entry)) r (now (list .exit)) (now (flags .exit)) ⌝ }
+    ensures { λ r. ⌜ RunsNested (now (program .entry)) at 3 (tablesIn (now (tables .entry))) (viewed (now (tables .entry)) .bases) left loops indices progress (now (list .entry)) (now (flags .entry)) r (now (list .exit)) (now (flags .exit)) ⌝ }
 {
     if left == 0 {
         return Walk::No(12, at);
@@ -222,7 +221,7 @@ fn run_guard(
 fn run_loop(
     program: &[u8],
     at: usize,
-    tables: Tables,
+    tables: &[usize; 115],
     left: usize,
     loops: usize,
     indices: [i16; 8],
@@ -231,7 +230,7 @@ fn run_loop(
     list: &mut [u32],
 ) -> Walk
     requires { ⌜ (loops + left ≤ 8) × (at < length (now program)) ⌝ }
-    ensures { λ r. ⌜ RunsNested (now (program .entry)) at 2 (unpacked «tables») («tables» .bases) left loops indices progress (now (list .entry)) (now (flags .entry)) r (now (list .exit)) (now (flags .exit)) ⌝ }
+    ensures { λ r. ⌜ RunsNested (now (program .entry)) at 2 (tablesIn (now (tables .entry))) (viewed (now (tables .entry)) .bases) left loops indices progress (now (list .entry)) (now (flags .entry)) r (now (list .exit)) (now (flags .exit)) ⌝ }
 {
     if left == 0 {
         return Walk::No(12, at);
@@ -262,7 +261,7 @@ fn rounds(
     program: &[u8],
     at: usize,
     body: usize,
-    tables: Tables,
+    tables: &[usize; 115],
     left: usize,
     loops: usize,
     indices: [i16; 8],
@@ -274,7 +273,7 @@ fn rounds(
     list: &mut [u32],
 ) -> Walk
     requires { ⌜ (loops + left < 8) × (step ≡ pos 0 → ⊥) ⌝ }
-    ensures { λ r. ⌜ RunsRounds (now (program .entry)) at body (unpacked «tables») («tables» .bases) left loops indices step last 65536 first 0 progress (now (list .entry)) (now (flags .entry)) r (now (list .exit)) (now (flags .exit)) ⌝ }
+    ensures { λ r. ⌜ RunsRounds (now (program .entry)) at body (tablesIn (now (tables .entry))) (viewed (now (tables .entry)) .bases) left loops indices step last 65536 first 0 progress (now (list .entry)) (now (flags .entry)) r (now (list .exit)) (now (flags .exit)) ⌝ }
 {
     let end = last as i32;
     let by = step as i32;
@@ -316,7 +315,7 @@ fn round(
     program: &[u8],
     at: usize,
     body: usize,
-    tables: Tables,
+    tables: &[usize; 115],
     left: usize,
     loops: usize,
     indices: [i16; 8],
@@ -326,7 +325,7 @@ fn round(
     list: &mut [u32],
 ) -> Walk
     requires { ⌜ loops + left < 8 ⌝ }
-    ensures { λ r. ⌜ RunsRound (now (program .entry)) at body (unpacked «tables») («tables» .bases) left loops indices index progress (now (list .entry)) (now (flags .entry)) r (now (list .exit)) (now (flags .exit)) ⌝ }
+    ensures { λ r. ⌜ RunsRound (now (program .entry)) at body (tablesIn (now (tables .entry))) (viewed (now (tables .entry)) .bases) left loops indices index progress (now (list .entry)) (now (flags .entry)) r (now (list .exit)) (now (flags .exit)) ⌝ }
 {
     let made = progress.rounds;
     if 65536 <= made {

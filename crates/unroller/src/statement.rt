@@ -3,13 +3,13 @@ ghost use mathlib.Core.Path.{_≡_};
 ghost use mathlib.Core.Bool.{true};
 ghost use mathlib.Core.List.{[], _∷_};
 ghost use Prim.Native.Nat.{_+_, _*_, _<_, _≤_};
-ghost use lib.ListN.{length, getD, drop};
+ghost use lib.ListN.{length, drop};
 ghost use lib.Seq.{sets};
 ghost use lib.Dec.{ltb};
 ghost use mir.Syntax.{w32};
 ghost use mir.Val.{ofZ};
 ghost use Rattle.model.specs.Tables.{arrayAt};
-ghost use Rattle.reader.specs.Entries.{unpacked};
+ghost use Rattle.reader.specs.Entries.{viewed, tablesIn};
 ghost use Rattle.unroller.specs.Run.{fits32};
 ghost use Rattle.unroller.specs.Walk.{RunsStatement};
 ghost use Rattle.unroller.specs.Writes.{InExtent, Below, Subscript, CellsFrom, WritesRead, WritesLiteral, WritesConstant, WritesLeaf, WritesNode, WritesOperator, WritesArgs, spot, mayRead, recordFine, scanned, Marks, WritesUpdate, Sources, RunsUpdate, RunsTarget};
@@ -24,10 +24,11 @@ use reader::fields::Place;
 use reader::fields::byte_at;
 use reader::fields::index_at;
 use reader::fields::name_at;
-use reader::tables::Tables;
 use reader::tables::arity_of;
 use reader::tables::array_count;
+use reader::tables::base_of;
 use reader::tables::dimensions_of;
+use reader::tables::extent_of;
 use reader::tables::operator_count;
 use reader::tables::role_of;
 
@@ -41,12 +42,6 @@ enum Cell {
 enum Wrote {
     To(usize, usize),
     No(u8),
-}
-
-fn wide(x: u16) -> usize
-    ensures { λ r. ⌜ (r ≡ x) × (r < 65536) ⌝ }
-{
-    x as usize
 }
 
 fn number(x: u32) -> usize
@@ -71,19 +66,6 @@ fn bits_of(v: i64) -> u32
     } else {
         word(v as usize)
     }
-}
-
-// 0 where the array is not declared, or has fewer dimensions.
-fn extent_of(tables: Tables, array: usize, dimension: usize) -> usize
-    ensures { λ r. ⌜ (r ≡ getD (arrayAt (unpacked «tables» .arrays) array .extents) dimension 0) × (r < 65536) ⌝ }
-{
-    if array < array_count(tables) {
-        if dimension < dimensions_of(tables, array) {
-            let extents = tables.extents;
-            return wide(extents[3 * array + dimension]);
-        }
-    }
-    0
 }
 
 // Is the subscript inside its extent? 16
@@ -115,12 +97,12 @@ fn subscript_at(program: &[u8], at: usize, loops: usize, indices: [i16; 8], exte
 fn cell_at(
     program: &[u8],
     at: usize,
-    tables: Tables,
+    tables: &[usize; 115],
     loops: usize,
     indices: [i16; 8],
     array: usize,
 ) -> Cell
-    ensures { λ r. ⌜ CellsFrom (now (program .entry)) at loops indices 0 (arrayAt (unpacked «tables» .arrays) array .extents) r ⌝ }
+    ensures { λ r. ⌜ CellsFrom (now (program .entry)) at loops indices 0 (arrayAt (tablesIn (now (tables .entry)) .arrays) array .extents) r ⌝ }
 {
     let dimensions = dimensions_of(tables, array);
     let mut cell: usize = 0;
@@ -154,14 +136,14 @@ fn put(list: &mut [u32], to: usize, code: u32, x: u32, y: u32)
 fn write_read(
     program: &[u8],
     at: usize,
-    tables: Tables,
+    tables: &[usize; 115],
     loops: usize,
     indices: [i16; 8],
     list: &mut [u32],
     to: usize,
 ) -> Wrote
     requires { ⌜ to + 3 ≤ length (now list) ⌝ }
-    ensures { λ r. ⌜ WritesRead (now (program .entry)) at (unpacked «tables») loops indices (now (list .entry)) to r (now (list .exit)) ⌝ }
+    ensures { λ r. ⌜ WritesRead (now (program .entry)) at (tablesIn (now (tables .entry))) loops indices (now (list .entry)) to r (now (list .exit)) ⌝ }
 {
     match index_at(program, at, array_count(tables)) {
         Field::Not(number, _) => Wrote::No(number),
@@ -213,14 +195,14 @@ fn write_leaf(
     program: &[u8],
     code: usize,
     at: usize,
-    tables: Tables,
+    tables: &[usize; 115],
     loops: usize,
     indices: [i16; 8],
     list: &mut [u32],
     to: usize,
 ) -> Wrote
     requires { ⌜ to + 3 ≤ length (now list) ⌝ }
-    ensures { λ r. ⌜ WritesLeaf (now (program .entry)) at (unpacked «tables») loops indices code (now (list .entry)) to r (now (list .exit)) ⌝ }
+    ensures { λ r. ⌜ WritesLeaf (now (program .entry)) at (tablesIn (now (tables .entry))) loops indices code (now (list .entry)) to r (now (list .exit)) ⌝ }
 {
     match code {
         0x10 => write_read(program, at, tables, loops, indices, list, to),
@@ -234,14 +216,14 @@ fn write_leaf(
 fn write_node(
     program: &[u8],
     at: usize,
-    tables: Tables,
+    tables: &[usize; 115],
     loops: usize,
     indices: [i16; 8],
     left: usize,
     list: &mut [u32],
     to: usize,
 ) -> Wrote
-    ensures { λ r. ⌜ WritesNode (now (program .entry)) at (unpacked «tables») loops indices left (now (list .entry)) to r (now (list .exit)) ⌝ }
+    ensures { λ r. ⌜ WritesNode (now (program .entry)) at (tablesIn (now (tables .entry))) loops indices left (now (list .entry)) to r (now (list .exit)) ⌝ }
 {
     if list.len() < 3 {
         return Wrote::No(20);
@@ -264,7 +246,7 @@ fn write_node(
 fn write_operator(
     program: &[u8],
     at: usize,
-    tables: Tables,
+    tables: &[usize; 115],
     loops: usize,
     indices: [i16; 8],
     left: usize,
@@ -272,7 +254,7 @@ fn write_operator(
     to: usize,
 ) -> Wrote
     requires { ⌜ to + 3 ≤ length (now list) ⌝ }
-    ensures { λ r. ⌜ WritesOperator (now (program .entry)) at (unpacked «tables») loops indices left (now (list .entry)) to r (now (list .exit)) ⌝ }
+    ensures { λ r. ⌜ WritesOperator (now (program .entry)) at (tablesIn (now (tables .entry))) loops indices left (now (list .entry)) to r (now (list .exit)) ⌝ }
 {
     if left == 0 {
         return Wrote::No(12);
@@ -301,7 +283,7 @@ fn write_operator(
 fn write_args(
     program: &[u8],
     at: usize,
-    tables: Tables,
+    tables: &[usize; 115],
     loops: usize,
     indices: [i16; 8],
     left: usize,
@@ -309,7 +291,7 @@ fn write_args(
     list: &mut [u32],
     to: usize,
 ) -> Wrote
-    ensures { λ r. ⌜ WritesArgs (now (program .entry)) at (unpacked «tables») loops indices left n (now (list .entry)) to r (now (list .exit)) ⌝ }
+    ensures { λ r. ⌜ WritesArgs (now (program .entry)) at (tablesIn (now (tables .entry))) loops indices left n (now (list .entry)) to r (now (list .exit)) ⌝ }
 {
     let mut next = at;
     let mut end = to;
@@ -330,14 +312,13 @@ fn write_args(
 }
 
 // The number of a cell among the cells of all arrays; 2,048 for a cell beyond them.
-fn spot_of(tables: Tables, array: usize, cell: usize) -> usize
-    ensures { λ r. ⌜ r ≡ spot («tables» .bases) array cell ⌝ }
+fn spot_of(tables: &[usize; 115], array: usize, cell: usize) -> usize
+    ensures { λ r. ⌜ r ≡ spot (viewed (now (tables .entry)) .bases) array cell ⌝ }
 {
     if 16 < array {
         return 2048;
     }
-    let bases = tables.bases;
-    let base = bases[array];
+    let base = base_of(tables, array);
     if 2048 < base {
         return 2048;
     }
@@ -348,8 +329,8 @@ fn spot_of(tables: Tables, array: usize, cell: usize) -> usize
 }
 
 // Has the cell a starting content, or has an earlier update written it?
-fn may_read(tables: Tables, flags: &[u8; 2048], array: usize, cell: usize) -> bool
-    ensures { λ r. ⌜ r ≡ mayRead (unpacked «tables») («tables» .bases) (now (flags .entry)) array cell ⌝ }
+fn may_read(tables: &[usize; 115], flags: &[u8; 2048], array: usize, cell: usize) -> bool
+    ensures { λ r. ⌜ r ≡ mayRead (tablesIn (now (tables .entry))) (viewed (now (tables .entry)) .bases) (now (flags .entry)) array cell ⌝ }
 {
     let role = role_of(tables, array);
     if role == 0 {
@@ -366,9 +347,9 @@ fn may_read(tables: Tables, flags: &[u8; 2048], array: usize, cell: usize) -> bo
 }
 
 // Is the record at `at` no read, or one of a cell that may be read?
-fn record_fine(list: &[u32], at: usize, tables: Tables, flags: &[u8; 2048]) -> bool
+fn record_fine(list: &[u32], at: usize, tables: &[usize; 115], flags: &[u8; 2048]) -> bool
     requires { ⌜ at + 3 ≤ length (now list) ⌝ }
-    ensures { λ r. ⌜ r ≡ recordFine (mayRead (unpacked «tables») («tables» .bases) (now (flags .entry))) (drop at (now (list .entry))) ⌝ }
+    ensures { λ r. ⌜ r ≡ recordFine (mayRead (tablesIn (now (tables .entry))) (viewed (now (tables .entry)) .bases) (now (flags .entry))) (drop at (now (list .entry))) ⌝ }
 {
     if list[at] == 16 {
         may_read(tables, flags, number(list[at + 1]), number(list[at + 2]))
@@ -378,9 +359,15 @@ fn record_fine(list: &[u32], at: usize, tables: Tables, flags: &[u8; 2048]) -> b
 }
 
 // Is each cell read in the n records from word `from` on one that may be read?
-fn all_written(list: &[u32], from: usize, n: usize, tables: Tables, flags: &[u8; 2048]) -> bool
+fn all_written(
+    list: &[u32],
+    from: usize,
+    n: usize,
+    tables: &[usize; 115],
+    flags: &[u8; 2048],
+) -> bool
     requires { ⌜ from + 3 * n ≤ length (now list) ⌝ }
-    ensures { λ r. ⌜ r ≡ scanned (mayRead (unpacked «tables») («tables» .bases) (now (flags .entry))) n (drop from (now (list .entry))) ⌝ }
+    ensures { λ r. ⌜ r ≡ scanned (mayRead (tablesIn (now (tables .entry))) (viewed (now (tables .entry)) .bases) (now (flags .entry))) n (drop from (now (list .entry))) ⌝ }
 {
     let mut at = from;
     let mut left = n;
@@ -408,14 +395,14 @@ fn write_update(
     array: usize,
     at: usize,
     source: usize,
-    tables: Tables,
+    tables: &[usize; 115],
     loops: usize,
     indices: [i16; 8],
     list: &mut [u32],
     to: usize,
 ) -> Cell
     requires { ⌜ to + 3 ≤ length (now list) ⌝ }
-    ensures { λ r. ⌜ WritesUpdate (now (program .entry)) array at source (unpacked «tables») loops indices (now (list .entry)) to r (now (list .exit)) ⌝ }
+    ensures { λ r. ⌜ WritesUpdate (now (program .entry)) array at source (tablesIn (now (tables .entry))) loops indices (now (list .entry)) to r (now (list .exit)) ⌝ }
 {
     match cell_at(program, at, tables, loops, indices, array) {
         Cell::No(number) => Cell::No(number),
@@ -430,8 +417,8 @@ fn write_update(
 }
 
 // The number of nodes of the expression behind a target's subscripts, and its place.
-fn source_at(program: &[u8], at: usize, tables: Tables, loops: usize, array: usize) -> Field
-    ensures { λ r. ⌜ Sources (now (program .entry)) at (unpacked «tables») loops array r ⌝ }
+fn source_at(program: &[u8], at: usize, tables: &[usize; 115], loops: usize, array: usize) -> Field
+    ensures { λ r. ⌜ Sources (now (program .entry)) at (tablesIn (now (tables .entry))) loops array r ⌝ }
 {
     match forms_end(program, at, loops, dimensions_of(tables, array)) {
         Place::Not(number, place) => Field::Not(number, place),
@@ -462,7 +449,7 @@ fn update(
     target: usize,
     source: usize,
     nodes: usize,
-    tables: Tables,
+    tables: &[usize; 115],
     loops: usize,
     indices: [i16; 8],
     progress: Progress,
@@ -470,7 +457,7 @@ fn update(
     list: &mut [u32],
 ) -> Walk
     requires { ⌜ (progress .updates < 2048) × (progress .nodes + nodes ≤ 8192) × (32768 ≤ length (now list)) ⌝ }
-    ensures { λ r. ⌜ RunsUpdate (now (program .entry)) at array target source nodes (unpacked «tables») («tables» .bases) loops indices «progress» (now (list .entry)) (now (flags .entry)) r (now (list .exit)) (now (flags .exit)) ⌝ }
+    ensures { λ r. ⌜ RunsUpdate (now (program .entry)) at array target source nodes (tablesIn (now (tables .entry))) (viewed (now (tables .entry)) .bases) loops indices «progress» (now (list .entry)) (now (flags .entry)) r (now (list .exit)) (now (flags .exit)) ⌝ }
 {
     let to = 98 + 3 * (progress.updates + progress.nodes);
     match write_update(
@@ -510,7 +497,7 @@ fn assign(
     at: usize,
     array: usize,
     target: usize,
-    tables: Tables,
+    tables: &[usize; 115],
     loops: usize,
     indices: [i16; 8],
     progress: Progress,
@@ -518,7 +505,7 @@ fn assign(
     list: &mut [u32],
 ) -> Walk
     requires { ⌜ (progress .updates < 2048) × (32768 ≤ length (now list)) ⌝ }
-    ensures { λ r. ⌜ RunsTarget (now (program .entry)) at array target (unpacked «tables») («tables» .bases) loops indices «progress» (now (list .entry)) (now (flags .entry)) r (now (list .exit)) (now (flags .exit)) ⌝ }
+    ensures { λ r. ⌜ RunsTarget (now (program .entry)) at array target (tablesIn (now (tables .entry))) (viewed (now (tables .entry)) .bases) loops indices «progress» (now (list .entry)) (now (flags .entry)) r (now (list .exit)) (now (flags .exit)) ⌝ }
 {
     match source_at(program, target, tables, loops, array) {
         Field::Not(number, _) => Walk::No(number, at),
@@ -548,14 +535,14 @@ fn assign(
 pub(crate) fn statement(
     program: &[u8],
     at: usize,
-    tables: Tables,
+    tables: &[usize; 115],
     loops: usize,
     indices: [i16; 8],
     progress: Progress,
     flags: &mut [u8; 2048],
     list: &mut [u32],
 ) -> Walk
-    ensures { λ r. ⌜ RunsStatement (now (program .entry)) at (unpacked «tables») («tables» .bases) loops indices «progress» (now (list .entry)) (now (flags .entry)) r (now (list .exit)) (now (flags .exit)) ⌝ }
+    ensures { λ r. ⌜ RunsStatement (now (program .entry)) at (tablesIn (now (tables .entry))) (viewed (now (tables .entry)) .bases) loops indices «progress» (now (list .entry)) (now (flags .entry)) r (now (list .exit)) (now (flags .exit)) ⌝ }
 {
     if 2047 < progress.updates {
         return Walk::No(19, at);

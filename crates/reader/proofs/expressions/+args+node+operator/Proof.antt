@@ -10,7 +10,7 @@ use Rattle.reader.specs.Field.{times}
 use Rattle.reader.specs.Syntax.{count, counts}
 use Rattle.reader.specs.Syntax.Exprs.{none as noArgs, more as moreArgs}
 use Rattle.reader.specs.Grammar.{node as nodeOf, applied, applyOf}
-use Rattle.reader.specs.Entries.{unpacked}
+use Rattle.reader.specs.Entries.{tablesIn}
 use Rattle.reader.proofs.Nodes.{applied-none, applied-some, apply-no, apply-is, apply-fits, args-none, args-end, args-stop, args-step}
 use Rattle.reader.proofs.Forward.{held-got, Counted, nodes-held, index-held}
 use Prim.Native.Nat.{ℕ, _<_}
@@ -35,36 +35,36 @@ use Rattle.reader.proofs.tables.operator_count.Reads as operator-count-
 use Rattle.reader.proofs.expressions.+args+node+operator.{statement}
 use Rattle.reader.proofs.expressions.+args+node+operator.Tie.{close}
 
-abbrev μ-args : Measures 1 args-kinds.ps ℕ
+abbrev μ-args : Measures 2 args-kinds.ps ℕ
 μ-args κs a = 3 * a .1 .1 .1 .1 .0 + 3
 
-abbrev μ-node : Measures 1 node-kinds.ps ℕ
+abbrev μ-node : Measures 2 node-kinds.ps ℕ
 μ-node κs a = 3 * a .1 .1 .1 .1 .0 + 2
 
-abbrev μ-operator : Measures 1 operator-kinds.ps ℕ
+abbrev μ-operator : Measures 2 operator-kinds.ps ℕ
 μ-operator κs a = 3 * a .1 .1 .1 .1 .1 .0 + 1
 
-abbrev args-at : ℕ → In 1 args-kinds.ps
-args-at t = and 1 args-kinds.ps (is 1 args-kinds.ps μ-args t) args.Pre
+abbrev args-at : ℕ → In 2 args-kinds.ps
+args-at t = and 2 args-kinds.ps (is 2 args-kinds.ps μ-args t) args.Pre
 
-abbrev args-below : ℕ → In 1 args-kinds.ps
-args-below t = and 1 args-kinds.ps (falls 1 args-kinds.ps _<_ μ-args t) args.Pre
+abbrev args-below : ℕ → In 2 args-kinds.ps
+args-below t = and 2 args-kinds.ps (falls 2 args-kinds.ps _<_ μ-args t) args.Pre
 
-abbrev node-at : ℕ → In 1 node-kinds.ps
-node-at t = and 1 node-kinds.ps (is 1 node-kinds.ps μ-node t) node.Pre
+abbrev node-at : ℕ → In 2 node-kinds.ps
+node-at t = and 2 node-kinds.ps (is 2 node-kinds.ps μ-node t) node.Pre
 
-abbrev node-below : ℕ → In 1 node-kinds.ps
-node-below t = and 1 node-kinds.ps (falls 1 node-kinds.ps _<_ μ-node t) node.Pre
+abbrev node-below : ℕ → In 2 node-kinds.ps
+node-below t = and 2 node-kinds.ps (falls 2 node-kinds.ps _<_ μ-node t) node.Pre
 
-abbrev operator-at : ℕ → In 1 operator-kinds.ps
-operator-at t = and 1 operator-kinds.ps (is 1 operator-kinds.ps μ-operator t) operator.Pre
+abbrev operator-at : ℕ → In 2 operator-kinds.ps
+operator-at t = and 2 operator-kinds.ps (is 2 operator-kinds.ps μ-operator t) operator.Pre
 
-abbrev operator-below : ℕ → In 1 operator-kinds.ps
+abbrev operator-below : ℕ → In 2 operator-kinds.ps
 operator-below t =
-    and 1 operator-kinds.ps (falls 1 operator-kinds.ps _<_ μ-operator t) operator.Pre
+    and 2 operator-kinds.ps (falls 2 operator-kinds.ps _<_ μ-operator t) operator.Pre
 
 abbrev args-Inv-loop : args-lts.InvT-loop
-args-Inv-loop s at tables loops left n place₀ more₀ nodes₀ place more nodes = (nodes ≤ place) × (through (λ es. nodes + counts es) (times noArgs moreArgs (nodeOf (unpacked tables) loops (applied (unpacked tables) loops left)) more s place) ≡ through counts (times noArgs moreArgs (nodeOf (unpacked tables) loops (applied (unpacked tables) loops left)) n s at))
+args-Inv-loop s at tables loops left n place₀ more₀ nodes₀ place more nodes = (nodes ≤ place) × (through (λ es. nodes + counts es) (times noArgs moreArgs (nodeOf (tablesIn tables) loops (applied (tablesIn tables) loops left)) more s place) ≡ through counts (times noArgs moreArgs (nodeOf (tablesIn tables) loops (applied (tablesIn tables) loops left)) n s at))
 
 abbrev args-μ-loop : args-lts.MeasureT-loop
 args-μ-loop s at tables loops left n place₀ more₀ nodes₀ place more nodes = more
@@ -81,7 +81,7 @@ operator-claims t = (operator-count-reads.Asked, operator-count-reads.Learnt, in
 module _ (t : ℕ) where
   args-loop-holds : args-lts.Need-loop-holds (args-claims t) (args-at t) args.Post args-Inv-loop args-μ-loop
   args-loop-holds c =
-      (omega arith, args-none (nodeOf (unpacked (c .before .args .«tables»)) 0 (applied (unpacked (c .before .args .«tables»)) 0 0)) (c .before .args .s .now) 0 _)
+      (omega arith, args-none (nodeOf (tablesIn (c .before .args .tables .now)) 0 (applied (tablesIn (c .before .args .tables .now)) 0 0)) (c .before .args .s .now) 0 _)
 
   args-node-requires : args-lts.Need-node-requires (args-claims t) (args-at t) args.Post args-Inv-loop args-μ-loop
   args-node-requires c κs =
@@ -102,7 +102,7 @@ module _ (t : ℕ) where
   args-add-nodes : args-lts.Need-add-nodes (args-claims t) (args-at t) args.Post args-Inv-loop args-μ-loop
   args-add-nodes c =
       let g = through-got count _ (field-got (c .before .before .before .node .ensures) (c .before .k .given .1)) in
-      let v = held-got (Counted (c .before .before .before .before .before .before .before .args .s .now) (unpacked (c .before .before .before .before .before .before .before .args .«tables»)) (c .before .before .before .before .before .before .before .args .loops) (c .before .before .before .before .before .loop .place)) (nodes-held _ _ _ _ _) (g .1) in
+      let v = held-got (Counted (c .before .before .before .before .before .before .before .args .s .now) (tablesIn (c .before .before .before .before .before .before .before .args .tables .now)) (c .before .before .before .before .before .before .before .args .loops) (c .before .before .before .before .before .loop .place)) (nodes-held _ _ _ _ _) (g .1) in
       omega (arith, g .2, v .0, v .1, c .before .before .before .before .before .loop .inv .0)
 
   args-sub-more : args-lts.Need-sub-more (args-claims t) (args-at t) args.Post args-Inv-loop args-μ-loop
@@ -116,7 +116,7 @@ module _ (t : ℕ) where
   args-loop-again : args-lts.Need-loop-again (args-claims t) (args-at t) args.Post args-Inv-loop args-μ-loop
   args-loop-again c =
       let g = through-got count _ (field-got (c .before .before .before .node .ensures) (c .before .k .given .1)) in
-      let v = held-got (Counted (c .before .before .before .before .before .before .before .args .s .now) (unpacked (c .before .before .before .before .before .before .before .args .«tables»)) (c .before .before .before .before .before .before .before .args .loops) (c .before .before .before .before .before .loop .place)) (nodes-held _ _ _ _ _) (g .1) in
+      let v = held-got (Counted (c .before .before .before .before .before .before .before .args .s .now) (tablesIn (c .before .before .before .before .before .before .before .args .tables .now)) (c .before .before .before .before .before .before .before .args .loops) (c .before .before .before .before .before .loop .place)) (nodes-held _ _ _ _ _) (g .1) in
       (omega (arith, g .2, v .0, c .before .before .before .before .before .loop .inv .0), args-step _ _ _ _ _ (c .before .before .before .before .loop-test .taken) (c .before .before .before .node .ensures) (c .before .k .given .1) ∙ c .before .before .before .before .before .loop .inv .1)
 
   args-returns-2 : args-lts.Need-returns-2 (args-claims t) (args-at t) args.Post args-Inv-loop args-μ-loop
@@ -225,7 +225,7 @@ module _ (t : ℕ) where
 
   operator-add-t23 : operator-lts.Need-add-t23 (operator-claims t) (operator-at t) operator.Post
   operator-add-t23 c =
-      let i = held-got (λ x n. (x < length (unpacked (c .before .before .before .before .before .before .before .before .before .before .before .before .args .«tables») .arities)) × (n ≡ c .before .before .before .before .before .before .before .before .before .before .before .before .args .at + 1) × (n ≤ length (c .before .before .before .before .before .before .before .before .before .before .before .before .args .s .now))) (index-held _ _ _) (index-got _ _ _ _ (c .before .before .before .before .before .before .before .before .before .operator-count .ensures) (c .before .before .before .before .before .before .before .before .index-at .ensures) (c .before .before .before .before .before .before .o .given .1)) in
+      let i = held-got (λ x n. (x < length (tablesIn (c .before .before .before .before .before .before .before .before .before .before .before .before .args .tables .now) .arities)) × (n ≡ c .before .before .before .before .before .before .before .before .before .before .before .before .args .at + 1) × (n ≤ length (c .before .before .before .before .before .before .before .before .before .before .before .before .args .s .now))) (index-held _ _ _) (index-got _ _ _ _ (c .before .before .before .before .before .before .before .before .before .operator-count .ensures) (c .before .before .before .before .before .before .before .before .index-at .ensures) (c .before .before .before .before .before .before .o .given .1)) in
       let v = apply-fits _ _ _ _ _ (index-got _ _ _ _ (c .before .before .before .before .before .before .before .before .before .operator-count .ensures) (c .before .before .before .before .before .before .before .before .index-at .ensures) (c .before .before .before .before .before .before .o .given .1)) (c .before .before .before .before .arity-of .ensures) (c .before .before .before .args2 .result) (c .before .before .before .args2 .ensures) (i .2) (c .before .nodes .given .1) in
       omega (arith, i .1, v .0, v .1)
 

@@ -9,7 +9,7 @@ use lib.ListN.{length, getD}
 use lib.Dec.{eqb}
 use mathlib.Core.Bool.{_||_}
 use Rattle.reader.specs.Grammar.{items as itemsOf, itemOf, nested, body}
-use Rattle.reader.specs.Entries.{unpacked}
+use Rattle.reader.specs.Entries.{tablesIn}
 use Rattle.reader.proofs.Runs.{run-end, run-close, run-stop, run-step, item-statement, item-around, item-other, around-none, loop-no, loop-all, guard-no, guard-all}
 use Rattle.reader.proofs.Forward.{held-got, Past, items-of-held}
 use Prim.Native.Nat.{ℕ, _<_}
@@ -30,35 +30,35 @@ use Rattle.reader.proofs.items.statement_end.Reads as statement-end-rea
 use Rattle.reader.proofs.items.+around+item+run.{statement}
 use Rattle.reader.proofs.items.+around+item+run.Tie.{close}
 
-abbrev μ-around : Measures 1 around-kinds.ps ℕ
+abbrev μ-around : Measures 2 around-kinds.ps ℕ
 μ-around κs a = 3 * a .1 .1 .1 .1 .0 + 1
 
-abbrev μ-item : Measures 1 item-kinds.ps ℕ
+abbrev μ-item : Measures 2 item-kinds.ps ℕ
 μ-item κs a = 3 * a .1 .1 .1 .1 .0 + 2
 
-abbrev μ-run : Measures 1 run-kinds.ps ℕ
+abbrev μ-run : Measures 2 run-kinds.ps ℕ
 μ-run κs a = 3 * a .1 .1 .1 .0 + 3
 
-abbrev around-at : ℕ → In 1 around-kinds.ps
-around-at t = and 1 around-kinds.ps (is 1 around-kinds.ps μ-around t) around.Pre
+abbrev around-at : ℕ → In 2 around-kinds.ps
+around-at t = and 2 around-kinds.ps (is 2 around-kinds.ps μ-around t) around.Pre
 
-abbrev around-below : ℕ → In 1 around-kinds.ps
-around-below t = and 1 around-kinds.ps (falls 1 around-kinds.ps _<_ μ-around t) around.Pre
+abbrev around-below : ℕ → In 2 around-kinds.ps
+around-below t = and 2 around-kinds.ps (falls 2 around-kinds.ps _<_ μ-around t) around.Pre
 
-abbrev item-at : ℕ → In 1 item-kinds.ps
-item-at t = and 1 item-kinds.ps (is 1 item-kinds.ps μ-item t) item.Pre
+abbrev item-at : ℕ → In 2 item-kinds.ps
+item-at t = and 2 item-kinds.ps (is 2 item-kinds.ps μ-item t) item.Pre
 
-abbrev item-below : ℕ → In 1 item-kinds.ps
-item-below t = and 1 item-kinds.ps (falls 1 item-kinds.ps _<_ μ-item t) item.Pre
+abbrev item-below : ℕ → In 2 item-kinds.ps
+item-below t = and 2 item-kinds.ps (falls 2 item-kinds.ps _<_ μ-item t) item.Pre
 
-abbrev run-at : ℕ → In 1 run-kinds.ps
-run-at t = and 1 run-kinds.ps (is 1 run-kinds.ps μ-run t) run.Pre
+abbrev run-at : ℕ → In 2 run-kinds.ps
+run-at t = and 2 run-kinds.ps (is 2 run-kinds.ps μ-run t) run.Pre
 
-abbrev run-below : ℕ → In 1 run-kinds.ps
-run-below t = and 1 run-kinds.ps (falls 1 run-kinds.ps _<_ μ-run t) run.Pre
+abbrev run-below : ℕ → In 2 run-kinds.ps
+run-below t = and 2 run-kinds.ps (falls 2 run-kinds.ps _<_ μ-run t) run.Pre
 
 abbrev run-Inv-loop : run-lts.InvT-loop
-run-Inv-loop s at tables left loops place₀ place = (k : ℕ) × (length s ≤ place + k) × (ended (itemsOf (itemOf (unpacked tables) (length s) (nested (unpacked tables) (length s) left loops) loops) k s place) ≡ ended (body (unpacked tables) (length s) left loops s at))
+run-Inv-loop s at tables left loops place₀ place = (k : ℕ) × (length s ≤ place + k) × (ended (itemsOf (itemOf (tablesIn tables) (length s) (nested (tablesIn tables) (length s) left loops) loops) k s place) ≡ ended (body (tablesIn tables) (length s) left loops s at))
 
 abbrev run-μ-loop : run-lts.MeasureT-loop
 run-μ-loop s at tables left loops place₀ place = length s - place
@@ -192,7 +192,7 @@ module _ (t : ℕ) where
 
   run-returns : run-lts.Need-returns (run-claims t) (run-at t) run.Post run-Inv-loop run-μ-loop
   run-returns c =
-      run-close (itemOf (unpacked (c .before .before .before .before .before .args .«tables»)) (length (c .before .before .before .before .before .args .s .now)) (nested (unpacked (c .before .before .before .before .before .args .«tables»)) (length (c .before .before .before .before .before .args .s .now)) (c .before .before .before .before .before .args .left) (c .before .before .before .before .before .args .loops)) (c .before .before .before .before .before .args .loops)) _ (c .before .before .before .loop .inv .0) _ (c .before .before .loop-test .taken) (c .before .before .before .loop .inv .1) (c .if1 .taken) ∙ c .before .before .before .loop .inv .2
+      run-close (itemOf (tablesIn (c .before .before .before .before .before .args .tables .now)) (length (c .before .before .before .before .before .args .s .now)) (nested (tablesIn (c .before .before .before .before .before .args .tables .now)) (length (c .before .before .before .before .before .args .s .now)) (c .before .before .before .before .before .args .left) (c .before .before .before .before .before .args .loops)) (c .before .before .before .before .before .args .loops)) _ (c .before .before .before .loop .inv .0) _ (c .before .before .loop-test .taken) (c .before .before .before .loop .inv .1) (c .if1 .taken) ∙ c .before .before .before .loop .inv .2
 
   run-item-requires : run-lts.Need-item-requires (run-claims t) (run-at t) run.Post run-Inv-loop run-μ-loop
   run-item-requires c κs =
@@ -204,7 +204,7 @@ module _ (t : ℕ) where
 
   run-returns-2 : run-lts.Need-returns-2 (run-claims t) (run-at t) run.Post run-Inv-loop run-μ-loop
   run-returns-2 c =
-      run-stop (itemOf (unpacked (c .before .before .before .before .before .before .before .before .before .args .«tables»)) (length (c .before .before .before .before .before .before .before .before .before .args .s .now)) (nested (unpacked (c .before .before .before .before .before .before .before .before .before .args .«tables»)) (length (c .before .before .before .before .before .before .before .before .before .args .s .now)) (c .before .before .before .before .before .before .before .before .before .args .left) (c .before .before .before .before .before .before .before .before .before .args .loops)) (c .before .before .before .before .before .before .before .before .before .args .loops)) (c .before .before .before .before .before .before .before .before .before .args .s .now) (c .before .before .before .before .before .before .before .loop .place) (c .before .before .before .before .before .before .loop-test .taken) (c .before .before .before .before .if1 .left) (c .before .before .before .item .result) (c .before .before .before .item .ensures) (c .before .before .before .before .before .before .before .loop .inv .0) (c .before .before .before .before .before .before .before .loop .inv .1) (c .before .number .given .1) ∙ c .before .before .before .before .before .before .before .loop .inv .2
+      run-stop (itemOf (tablesIn (c .before .before .before .before .before .before .before .before .before .args .tables .now)) (length (c .before .before .before .before .before .before .before .before .before .args .s .now)) (nested (tablesIn (c .before .before .before .before .before .before .before .before .before .args .tables .now)) (length (c .before .before .before .before .before .before .before .before .before .args .s .now)) (c .before .before .before .before .before .before .before .before .before .args .left) (c .before .before .before .before .before .before .before .before .before .args .loops)) (c .before .before .before .before .before .before .before .before .before .args .loops)) (c .before .before .before .before .before .before .before .before .before .args .s .now) (c .before .before .before .before .before .before .before .loop .place) (c .before .before .before .before .before .before .loop-test .taken) (c .before .before .before .before .if1 .left) (c .before .before .before .item .result) (c .before .before .before .item .ensures) (c .before .before .before .before .before .before .before .loop .inv .0) (c .before .before .before .before .before .before .before .loop .inv .1) (c .before .number .given .1) ∙ c .before .before .before .before .before .before .before .loop .inv .2
 
   run-enum-known-next : run-lts.Need-enum-known-next (run-claims t) (run-at t) run.Post run-Inv-loop run-μ-loop
   run-enum-known-next c =
@@ -212,15 +212,15 @@ module _ (t : ℕ) where
 
   run-loop-less : run-lts.Need-loop-less (run-claims t) (run-at t) run.Post run-Inv-loop run-μ-loop
   run-loop-less c =
-      omega (arith, held-got (Past (c .before .before .before .before .before .before .before .before .before .args .s .now) (c .before .before .before .before .before .before .before .loop .place + 1)) (items-of-held (c .before .before .before .before .before .before .before .before .before .args .s .now) (unpacked (c .before .before .before .before .before .before .before .before .before .args .«tables»)) (length (c .before .before .before .before .before .before .before .before .before .args .s .now)) (c .before .before .before .before .before .before .before .before .before .args .left) (c .before .before .before .before .before .before .before .before .before .args .loops) _ (c .before .before .before .before .before .before .before .loop .place) (c .before .before .before .before .before .before .before .loop .place + 1) (omega arith)) (ended-got _ (c .before .before .before .item .ensures) (c .before .next .given .1) .1))
+      omega (arith, held-got (Past (c .before .before .before .before .before .before .before .before .before .args .s .now) (c .before .before .before .before .before .before .before .loop .place + 1)) (items-of-held (c .before .before .before .before .before .before .before .before .before .args .s .now) (tablesIn (c .before .before .before .before .before .before .before .before .before .args .tables .now)) (length (c .before .before .before .before .before .before .before .before .before .args .s .now)) (c .before .before .before .before .before .before .before .before .before .args .left) (c .before .before .before .before .before .before .before .before .before .args .loops) _ (c .before .before .before .before .before .before .before .loop .place) (c .before .before .before .before .before .before .before .loop .place + 1) (omega arith)) (ended-got _ (c .before .before .before .item .ensures) (c .before .next .given .1) .1))
 
   run-loop-again : run-lts.Need-loop-again (run-claims t) (run-at t) run.Post run-Inv-loop run-μ-loop
   run-loop-again c =
-      (c .before .before .before .before .before .before .before .loop .inv .0 - 1, omega (arith, held-got (Past (c .before .before .before .before .before .before .before .before .before .args .s .now) (c .before .before .before .before .before .before .before .loop .place + 1)) (items-of-held (c .before .before .before .before .before .before .before .before .before .args .s .now) (unpacked (c .before .before .before .before .before .before .before .before .before .args .«tables»)) (length (c .before .before .before .before .before .before .before .before .before .args .s .now)) (c .before .before .before .before .before .before .before .before .before .args .left) (c .before .before .before .before .before .before .before .before .before .args .loops) _ (c .before .before .before .before .before .before .before .loop .place) (c .before .before .before .before .before .before .before .loop .place + 1) (omega arith)) (ended-got _ (c .before .before .before .item .ensures) (c .before .next .given .1) .1), c .before .before .before .before .before .before .before .loop .inv .1), run-step (itemOf (unpacked (c .before .before .before .before .before .before .before .before .before .args .«tables»)) (length (c .before .before .before .before .before .before .before .before .before .args .s .now)) (nested (unpacked (c .before .before .before .before .before .before .before .before .before .args .«tables»)) (length (c .before .before .before .before .before .before .before .before .before .args .s .now)) (c .before .before .before .before .before .before .before .before .before .args .left) (c .before .before .before .before .before .before .before .before .before .args .loops)) (c .before .before .before .before .before .before .before .before .before .args .loops)) (c .before .before .before .before .before .before .before .before .before .args .s .now) (c .before .before .before .before .before .before .before .loop .place) (c .before .before .before .before .before .before .loop-test .taken) (c .before .before .before .before .if1 .left) (c .before .before .before .item .result) (c .before .before .before .item .ensures) (c .before .before .before .before .before .before .before .loop .inv .0) (c .before .before .before .before .before .before .before .loop .inv .1) (c .before .next .given .1) ∙ c .before .before .before .before .before .before .before .loop .inv .2)
+      (c .before .before .before .before .before .before .before .loop .inv .0 - 1, omega (arith, held-got (Past (c .before .before .before .before .before .before .before .before .before .args .s .now) (c .before .before .before .before .before .before .before .loop .place + 1)) (items-of-held (c .before .before .before .before .before .before .before .before .before .args .s .now) (tablesIn (c .before .before .before .before .before .before .before .before .before .args .tables .now)) (length (c .before .before .before .before .before .before .before .before .before .args .s .now)) (c .before .before .before .before .before .before .before .before .before .args .left) (c .before .before .before .before .before .before .before .before .before .args .loops) _ (c .before .before .before .before .before .before .before .loop .place) (c .before .before .before .before .before .before .before .loop .place + 1) (omega arith)) (ended-got _ (c .before .before .before .item .ensures) (c .before .next .given .1) .1), c .before .before .before .before .before .before .before .loop .inv .1), run-step (itemOf (tablesIn (c .before .before .before .before .before .before .before .before .before .args .tables .now)) (length (c .before .before .before .before .before .before .before .before .before .args .s .now)) (nested (tablesIn (c .before .before .before .before .before .before .before .before .before .args .tables .now)) (length (c .before .before .before .before .before .before .before .before .before .args .s .now)) (c .before .before .before .before .before .before .before .before .before .args .left) (c .before .before .before .before .before .before .before .before .before .args .loops)) (c .before .before .before .before .before .before .before .before .before .args .loops)) (c .before .before .before .before .before .before .before .before .before .args .s .now) (c .before .before .before .before .before .before .before .loop .place) (c .before .before .before .before .before .before .loop-test .taken) (c .before .before .before .before .if1 .left) (c .before .before .before .item .result) (c .before .before .before .item .ensures) (c .before .before .before .before .before .before .before .loop .inv .0) (c .before .before .before .before .before .before .before .loop .inv .1) (c .before .next .given .1) ∙ c .before .before .before .before .before .before .before .loop .inv .2)
 
   run-returns-3 : run-lts.Need-returns-3 (run-claims t) (run-at t) run.Post run-Inv-loop run-μ-loop
   run-returns-3 c =
-      run-end (itemOf (unpacked (c .before .before .before .args .«tables»)) (length (c .before .before .before .args .s .now)) (nested (unpacked (c .before .before .before .args .«tables»)) (length (c .before .before .before .args .s .now)) (c .before .before .before .args .left) (c .before .before .before .args .loops)) (c .before .before .before .args .loops)) _ (c .before .loop .inv .0) _ (c .loop-test .left) ∙ c .before .loop .inv .2
+      run-end (itemOf (tablesIn (c .before .before .before .args .tables .now)) (length (c .before .before .before .args .s .now)) (nested (tablesIn (c .before .before .before .args .tables .now)) (length (c .before .before .before .args .s .now)) (c .before .before .before .args .left) (c .before .before .before .args .loops)) (c .before .before .before .args .loops)) _ (c .before .loop .inv .0) _ (c .loop-test .left) ∙ c .before .loop .inv .2
 
 pub +around+item+run-spec : {M : Type 1} → statement M
 +around+item+run-spec = close μ-around μ-item μ-run (λ t. around-lts.spec (around-claims t) (around-at t) around.Post (around-returns t) (around-add-loop-head-end t) (around-loop-head-end-requires t) (around-enum-known-number t) (around-enum-known-next t) (around-sub-run t) (around-add-run t) (around-run-requires t) (around-add-form-end t) (around-form-end-requires t) (around-enum-known-number-2 t) (around-enum-known-next-2 t) (around-sub-run-2 t) (around-run-requires-2 t) (around-returns-2 t) (around-returns-3 t) (around-returns-4 t) (around-returns-5 t)) (λ t. item-lts.spec (item-claims t) (item-at t) item.Post (item-add-statement-end t) (item-statement-end-requires t) (item-around-requires t) (item-around-requires-2 t) (item-returns t) (item-returns-2 t) (item-returns-3 t) (item-returns-4 t)) λ t. run-lts.spec (run-claims t) (run-at t) run.Post run-Inv-loop run-μ-loop (run-loop-holds t) (run-shared-slice-read-code t) (run-add-t15 t) (run-returns t) (run-item-requires t) (run-enum-known-number t) (run-returns-2 t) (run-enum-known-next t) (run-loop-less t) (run-loop-again t) (run-returns-3 t)

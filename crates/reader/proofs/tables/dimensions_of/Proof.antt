@@ -1,32 +1,30 @@
 use native.Mathlib.Omega.{arith}
-use mathlib.Core.Path.{_≡_, refl, sym, ap, _∙_}
-use Prim.Native.Nat.{ℕ, _+_, _-_, _*_, _<_, _≤_}
-use lib.ListN.{length, getD}
-use Prim.Native.Nat.{min}
-use Rattle.reader.proofs.Packing.{dimensions-in, dimensions-out}
 use borrow.Author.Needs.{needs}
+use mathlib.Core.Path.{_∙_}
+use Rattle.reader.proofs.Flattened.{arrays-in, dimensions-at, dimensions-none}
 use Rattle.reader.proofs.tables.dimensions_of.Statement.{statement}
 use Rattle.reader.proofs.tables.dimensions_of.Tie as tie
+
+array-count-requires : tie.Need-array-count-requires
+array-count-requires c κs = search needs
+
+add-at-most : tie.Need-add-at-most
+add-at-most c = let m = arrays-in (c .before .before .args .tables .now) in omega arith
+
+mul-at-most : tie.Need-mul-at-most
+mul-at-most c = let m = arrays-in (c .before .before .args .tables .now) in omega arith
+
+element-copy-out-at-most : tie.Need-element-copy-out-at-most
+element-copy-out-at-most c = let m = arrays-in (c .before .before .args .tables .now) in omega arith
 
 at-most-requires : tie.Need-at-most-requires
 at-most-requires c κs = search needs
 
-array-read-wide : tie.Need-array-read-wide
-array-read-wide c = search needs
-
-wide-requires : tie.Need-wide-requires
-wide-requires c κs = search needs
-
-at-most-requires-2 : tie.Need-at-most-requires-2
-at-most-requires-2 c κs = search needs
-
 returns : tie.Need-returns
-returns c = c .at-most2 .ensures ∙ ap (λ (n : ℕ). min n 3) (c .before .wide .ensures) ∙ dimensions-in (c .before .before .before .before .before .args .«tables») _ (omega arith)
+returns c = c .at-most .ensures ∙ dimensions-at (c .before .before .before .before .args .tables .now) (c .before .before .before .before .args .array) (omega arith)
 
 returns-2 : tie.Need-returns-2
-returns-2 c = dimensions-out (c .before .before .args .«tables») _ (omega arith)
+returns-2 c = dimensions-none (c .before .before .args .tables .now) (c .before .before .args .array) (omega arith)
 
 pub dimensions-of-spec : {M : Type 1} → statement M
-dimensions-of-spec =
-    tie.close
-    (tie.spec at-most-requires array-read-wide wide-requires at-most-requires-2 returns returns-2)
+dimensions-of-spec = tie.close (tie.spec array-count-requires add-at-most mul-at-most element-copy-out-at-most at-most-requires returns returns-2)

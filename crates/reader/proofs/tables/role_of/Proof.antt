@@ -1,25 +1,26 @@
 use native.Mathlib.Omega.{arith}
-use mathlib.Core.Path.{_≡_, refl, sym, ap, _∙_}
-use Rattle.reader.proofs.Packing.{role-in, role-out}
 use borrow.Author.Needs.{needs}
+use Rattle.reader.proofs.Flattened.{arrays-in, role-at, role-none}
 use Rattle.reader.proofs.tables.role_of.Statement.{statement}
 use Rattle.reader.proofs.tables.role_of.Tie as tie
 
-at-most-requires : tie.Need-at-most-requires
-at-most-requires c κs = search needs
+array-count-requires : tie.Need-array-count-requires
+array-count-requires c κs = search needs
 
-array-read-wide : tie.Need-array-read-wide
-array-read-wide c = search needs
+add-result : tie.Need-add-result
+add-result c = let m = arrays-in (c .before .before .args .tables .now) in omega arith
 
-wide-requires : tie.Need-wide-requires
-wide-requires c κs = search needs
+mul-result : tie.Need-mul-result
+mul-result c = let m = arrays-in (c .before .before .args .tables .now) in omega arith
+
+element-copy-out-result : tie.Need-element-copy-out-result
+element-copy-out-result c = let m = arrays-in (c .before .before .args .tables .now) in omega arith
 
 returns : tie.Need-returns
-returns c = c .wide .ensures ∙ role-in (c .before .before .before .before .args .«tables») _ (omega arith)
+returns c = role-at (c .before .before .before .args .tables .now) (c .before .before .before .args .array) (omega arith)
 
 returns-2 : tie.Need-returns-2
-returns-2 c = role-out (c .before .before .args .«tables») _ (omega arith)
+returns-2 c = role-none (c .before .before .args .tables .now) (c .before .before .args .array) (omega arith)
 
 pub role-of-spec : {M : Type 1} → statement M
-role-of-spec =
-    tie.close (tie.spec at-most-requires array-read-wide wide-requires returns returns-2)
+role-of-spec = tie.close (tie.spec array-count-requires add-result mul-result element-copy-out-result returns returns-2)

@@ -21,6 +21,9 @@ enum-known-answer-2 c = search needs
 header-requires : tie.Need-header-requires
 header-requires c κs = omega arith
 
+flat-requires : tie.Need-flat-requires
+flat-requires c κs = search needs
+
 items-requires : tie.Need-items-requires
 items-requires c κs = omega arith
 
@@ -37,16 +40,16 @@ returns : tie.Need-returns
 returns c = let a = c .before .before .before .before .before .before .before .args in let s = a .program .now in run-not s (a .list .now) (c .before .before .before .before .tables-of .result) (c .before .before .before .before .tables-of .ensures) (c .before .answer .given .0 .0) (c .before .answer .given .0 .1 .0) (c .before .answer .given .1) (a .list .now)
 
 same-length : tie.Need-same-length
-same-length c = c .before .before .clear .kept .0 ∙ c .before .before .before .before .before .before .before .before .before .items .kept .1 .1 .1 .1 .1 .1 .1 .1 .0 ∙ c .before .before .before .before .before .before .before .before .before .before .before .before .before .before .header .kept .1 .0
+same-length c = c .before .before .clear .kept .0 ∙ c .before .before .before .before .before .before .before .before .before .items .kept .1 .1 .1 .1 .1 .1 .1 .1 .0 ∙ c .before .before .before .before .before .before .before .before .before .before .before .before .before .before .before .before .header .kept .1 .0
 
 returns-2 : tie.Need-returns-2
-returns-2 c = let a = c .before .before .before .before .before .before .before .before .before .before .before .before .before .before .before .before .before .before .before .before .before .before .before .args in let s = a .program .now in run-no s (a .list .now) (c .before .before .before .before .before .before .before .before .before .before .before .before .before .before .before .before .before .before .before .before .tables-of .result) (c .before .before .before .before .before .before .before .before .before .before .before .before .before .before .before .before .before .before .before .before .tables-of .ensures) (c .before .before .before .before .before .before .before .before .before .before .before .before .before .before .before .before .before .before .before .before .before .before .before .pre) (c .before .before .before .before .before .before .before .before .before .before .before .before .before .before .before .before .before .answer2 .given .0 .0) (c .before .before .before .before .before .before .before .before .before .before .before .before .before .before .before .before .before .answer2 .given .1) (c .before .before .before .before .before .before .before .before .before .before .before .before .before .before .header .last .1 .0) (c .before .before .before .before .before .before .before .before .before .items .last .1 .1 .1 .1 .1 .1 .1 .1 .0) (c .before .before .before .before .before .before .before .before .before .items .last .1 .1 .1 .1 .1 .1 .1 .0) (c .before .before .before .before .before .before .before .before .before .before .before .before .before .before .header .ensures) (c .before .before .before .before .before .before .before .before .before .items .kept .1 .1 .1 .1 .1 .1 .1 .1 .0 ∙ c .before .before .before .before .before .before .before .before .before .before .before .before .before .before .header .kept .1 .0) (c .before .before .before .before .before .before .before .before .before .items .result) (c .before .before .before .before .before .before .before .before .before .items .ensures) (c .before .before .before .before .before .number .given .0 .0) (c .before .before .before .before .before .number .given .0 .1 .0) (c .before .before .before .before .before .number .given .1) (c .before .before .clear .last .0) (c .before .before .clear .ensures)
+returns-2 c = let a = c .before .before .before .before .before .before .before .before .before .before .before .before .before .before .before .before .before .before .before .before .before .before .before .before .before .args in let s = a .program .now in run-no s (a .list .now) (c .before .before .before .before .before .before .before .before .before .before .before .before .before .before .before .before .before .before .before .before .before .before .tables-of .result) (c .before .before .before .before .before .before .before .before .before .before .before .before .before .before .before .before .before .before .before .before .before .before .tables-of .ensures) (c .before .before .before .before .before .before .before .before .before .before .before .before .before .before .before .before .before .before .before .before .before .before .before .before .before .pre) (c .before .before .before .before .before .before .before .before .before .before .before .before .before .before .before .before .before .before .before .answer2 .given .0 .0) (c .before .before .before .before .before .before .before .before .before .before .before .before .before .before .before .before .before .before .before .answer2 .given .1) (c .before .before .before .before .before .before .before .before .before .before .before .before .before .flat .result) (c .before .before .before .before .before .before .before .before .before .before .before .before .before .flat .ensures .0) (c .before .before .before .before .before .before .before .before .before .before .before .before .before .flat .ensures .1) (c .before .before .before .before .before .before .before .before .before .before .before .before .before .before .before .before .header .last .1 .0) (c .before .before .before .before .before .before .before .before .before .items .last .1 .1 .1 .1 .1 .1 .1 .1 .0) (c .before .before .before .before .before .before .before .before .before .items .last .1 .1 .1 .1 .1 .1 .1 .0) (c .before .before .before .before .before .before .before .before .before .before .before .before .before .before .before .before .header .ensures) (c .before .before .before .before .before .before .before .before .before .items .kept .1 .1 .1 .1 .1 .1 .1 .1 .0 ∙ c .before .before .before .before .before .before .before .before .before .before .before .before .before .before .before .before .header .kept .1 .0) (c .before .before .before .before .before .before .before .before .before .items .result) (c .before .before .before .before .before .before .before .before .before .items .ensures) (c .before .before .before .before .before .number .given .0 .0) (c .before .before .before .before .before .number .given .0 .1 .0) (c .before .before .before .before .before .number .given .1) (c .before .before .clear .last .0) (c .before .before .clear .ensures)
 
 same-length-2 : tie.Need-same-length-2
-same-length-2 c = c .before .before .before .before .before .items .kept .1 .1 .1 .1 .1 .1 .1 .1 .0 ∙ c .before .before .before .before .before .before .before .before .before .before .header .kept .1 .0
+same-length-2 c = c .before .before .before .before .before .items .kept .1 .1 .1 .1 .1 .1 .1 .1 .0 ∙ c .before .before .before .before .before .before .before .before .before .before .before .before .header .kept .1 .0
 
 returns-3 : tie.Need-returns-3
-returns-3 c = let a = c .before .before .before .before .before .before .before .before .before .before .before .before .before .before .before .before .before .before .before .args in let s = a .program .now in run-on s (a .list .now) (c .before .before .before .before .before .before .before .before .before .before .before .before .before .before .before .before .tables-of .result) (c .before .before .before .before .before .before .before .before .before .before .before .before .before .before .before .before .tables-of .ensures) (c .before .before .before .before .before .before .before .before .before .before .before .before .before .before .before .before .before .before .before .pre) (c .before .before .before .before .before .before .before .before .before .before .before .before .before .answer2 .given .0 .0) (c .before .before .before .before .before .before .before .before .before .before .before .before .before .answer2 .given .1) (c .before .before .before .before .before .before .before .before .before .before .header .last .1 .0) (c .before .before .before .before .before .items .last .1 .1 .1 .1 .1 .1 .1 .1 .0) (c .before .before .before .before .before .items .last .1 .1 .1 .1 .1 .1 .1 .0) (c .before .before .before .before .before .before .before .before .before .before .header .ensures) (c .before .before .before .before .before .items .kept .1 .1 .1 .1 .1 .1 .1 .1 .0 ∙ c .before .before .before .before .before .before .before .before .before .before .header .kept .1 .0) (c .before .before .before .before .before .items .result) (c .before .before .before .before .before .items .ensures) (c .before .done .given .0 .0) (c .before .done .given .0 .1 .0) (c .before .done .given .1)
+returns-3 c = let a = c .before .before .before .before .before .before .before .before .before .before .before .before .before .before .before .before .before .before .before .before .before .args in let s = a .program .now in run-on s (a .list .now) (c .before .before .before .before .before .before .before .before .before .before .before .before .before .before .before .before .before .before .tables-of .result) (c .before .before .before .before .before .before .before .before .before .before .before .before .before .before .before .before .before .before .tables-of .ensures) (c .before .before .before .before .before .before .before .before .before .before .before .before .before .before .before .before .before .before .before .before .before .pre) (c .before .before .before .before .before .before .before .before .before .before .before .before .before .before .before .answer2 .given .0 .0) (c .before .before .before .before .before .before .before .before .before .before .before .before .before .before .before .answer2 .given .1) (c .before .before .before .before .before .before .before .before .before .flat .result) (c .before .before .before .before .before .before .before .before .before .flat .ensures .0) (c .before .before .before .before .before .before .before .before .before .flat .ensures .1) (c .before .before .before .before .before .before .before .before .before .before .before .before .header .last .1 .0) (c .before .before .before .before .before .items .last .1 .1 .1 .1 .1 .1 .1 .1 .0) (c .before .before .before .before .before .items .last .1 .1 .1 .1 .1 .1 .1 .0) (c .before .before .before .before .before .before .before .before .before .before .before .before .header .ensures) (c .before .before .before .before .before .items .kept .1 .1 .1 .1 .1 .1 .1 .1 .0 ∙ c .before .before .before .before .before .before .before .before .before .before .before .before .header .kept .1 .0) (c .before .before .before .before .before .items .result) (c .before .before .before .before .before .items .ensures) (c .before .done .given .0 .0) (c .before .done .given .0 .1 .0) (c .before .done .given .1)
 
 pub run-spec : {M : Type 1} → statement M
-run-spec = tie.close (tie.spec tables-of-requires enum-known-answer enum-known-answer-2 header-requires items-requires enum-known-number clear-requires enum-known-done returns same-length returns-2 same-length-2 returns-3)
+run-spec = tie.close (tie.spec tables-of-requires enum-known-answer enum-known-answer-2 header-requires flat-requires items-requires enum-known-number clear-requires enum-known-done returns same-length returns-2 same-length-2 returns-3)

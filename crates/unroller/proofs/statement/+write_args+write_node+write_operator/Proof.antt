@@ -6,7 +6,7 @@ use mathlib.Core.List.{List}
 use lib.ListN.{length}
 use borrow.Author.Tests.{eq-eqb, ne-eqb}
 use Rattle.reader.specs.Grammar.{index}
-use Rattle.reader.specs.Entries.{unpacked}
+use Rattle.reader.specs.Entries.{tablesIn}
 use Rattle.unroller.specs.Writes.{WritesArgs}
 use Rattle.unroller.specs.declared.statement.Wrote.{Wrote}
 use Rattle.unroller.proofs.Records.{node-short, node-no, node-operator, node-leaf, operator-none, operator-no, operator-is, args-end, args-stop, args-step}
@@ -31,50 +31,50 @@ use Rattle.unroller.proofs.statement.write_leaf.Reads as write-leaf-rea
 use Rattle.unroller.proofs.statement.+write_args+write_node+write_operator.{statement}
 use Rattle.unroller.proofs.statement.+write_args+write_node+write_operator.Tie.{close}
 
-abbrev μ-write-args : Measures 2 write-args-kinds.ps ℕ
+abbrev μ-write-args : Measures 3 write-args-kinds.ps ℕ
 μ-write-args κs a = 3 * a .1 .1 .1 .1 .1 .0 + 3
 
-abbrev μ-write-node : Measures 2 write-node-kinds.ps ℕ
+abbrev μ-write-node : Measures 3 write-node-kinds.ps ℕ
 μ-write-node κs a = 3 * a .1 .1 .1 .1 .1 .0 + 2
 
-abbrev μ-write-operator : Measures 2 write-operator-kinds.ps ℕ
+abbrev μ-write-operator : Measures 3 write-operator-kinds.ps ℕ
 μ-write-operator κs a = 3 * a .1 .1 .1 .1 .1 .0 + 1
 
-abbrev write-args-at : ℕ → In 2 write-args-kinds.ps
+abbrev write-args-at : ℕ → In 3 write-args-kinds.ps
 write-args-at t =
-    and 2 write-args-kinds.ps (is 2 write-args-kinds.ps μ-write-args t) write-args.Pre
+    and 3 write-args-kinds.ps (is 3 write-args-kinds.ps μ-write-args t) write-args.Pre
 
-abbrev write-args-below : ℕ → In 2 write-args-kinds.ps
+abbrev write-args-below : ℕ → In 3 write-args-kinds.ps
 write-args-below t =
-    and 2 write-args-kinds.ps (falls 2 write-args-kinds.ps _<_ μ-write-args t) write-args.Pre
+    and 3 write-args-kinds.ps (falls 3 write-args-kinds.ps _<_ μ-write-args t) write-args.Pre
 
-abbrev write-node-at : ℕ → In 2 write-node-kinds.ps
+abbrev write-node-at : ℕ → In 3 write-node-kinds.ps
 write-node-at t =
-    and 2 write-node-kinds.ps (is 2 write-node-kinds.ps μ-write-node t) write-node.Pre
+    and 3 write-node-kinds.ps (is 3 write-node-kinds.ps μ-write-node t) write-node.Pre
 
-abbrev write-node-below : ℕ → In 2 write-node-kinds.ps
+abbrev write-node-below : ℕ → In 3 write-node-kinds.ps
 write-node-below t =
-    and 2 write-node-kinds.ps (falls 2 write-node-kinds.ps _<_ μ-write-node t) write-node.Pre
+    and 3 write-node-kinds.ps (falls 3 write-node-kinds.ps _<_ μ-write-node t) write-node.Pre
 
-abbrev write-operator-at : ℕ → In 2 write-operator-kinds.ps
+abbrev write-operator-at : ℕ → In 3 write-operator-kinds.ps
 write-operator-at t =
     and
-    2
+    3
     write-operator-kinds.ps
-    (is 2 write-operator-kinds.ps μ-write-operator t)
+    (is 3 write-operator-kinds.ps μ-write-operator t)
     write-operator.Pre
 
-abbrev write-operator-below : ℕ → In 2 write-operator-kinds.ps
+abbrev write-operator-below : ℕ → In 3 write-operator-kinds.ps
 write-operator-below t =
     and
-    2
+    3
     write-operator-kinds.ps
-    (falls 2 write-operator-kinds.ps _<_ μ-write-operator t)
+    (falls 3 write-operator-kinds.ps _<_ μ-write-operator t)
     write-operator.Pre
 
 abbrev write-args-Inv-loop : write-args-lts.InvT-loop
 write-args-Inv-loop program at tables loops indices left n list₀ to next₀ end₀ more₀ list next end more =
-    (length list ≡ length list₀) × ((r : Wrote) (l : List ℕ) → WritesArgs program next (unpacked tables) loops indices left more list end r l → WritesArgs program at (unpacked tables) loops indices left n list₀ to r l)
+    (length list ≡ length list₀) × ((r : Wrote) (l : List ℕ) → WritesArgs program next (tablesIn tables) loops indices left more list end r l → WritesArgs program at (tablesIn tables) loops indices left n list₀ to r l)
 
 abbrev write-args-μ-loop : write-args-lts.MeasureT-loop
 write-args-μ-loop program at tables loops indices left n list₀ to next₀ end₀ more₀ list next end more = more

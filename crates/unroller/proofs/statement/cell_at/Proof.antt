@@ -2,9 +2,10 @@ use borrow.Author.Needs.{needs}
 use native.Mathlib.Omega.{arith}
 use Prim.Native.Nat.{_-_, _≤_, _<_}
 use lib.ListN.{drop}
-use Rattle.unroller.proofs.Cells.{loop-no, loop-is, loop-end, below-is, most, grows, cell-fits, dimensions-few}
+use Rattle.unroller.proofs.Cells.{loop-no, loop-is, loop-end, below-is, most, grows, cell-fits}
 use Rattle.model.specs.Tables.{arrayAt}
-use Rattle.reader.specs.Entries.{unpacked}
+use Rattle.reader.proofs.Flattened.{dimensions-three}
+use Rattle.reader.specs.Entries.{tablesIn}
 use Rattle.unroller.specs.Writes.{CellsFrom}
 use Rattle.unroller.specs.declared.statement.Cell.{Cell}
 use Rattle.unroller.proofs.statement.cell_at.Statement.{statement}
@@ -12,7 +13,7 @@ use Rattle.unroller.proofs.statement.cell_at.Tie as tie
 
 abbrev Inv-loop : tie.InvT-loop
 Inv-loop program at tables loops indices array dimensions cell₀ next₀ k₀ cell next k =
-    (k ≤ dimensions) × (cell < most k) × ((r : Cell) → CellsFrom program next loops indices cell (drop k (arrayAt (unpacked tables .arrays) array .extents)) r → CellsFrom program at loops indices 0 (arrayAt (unpacked tables .arrays) array .extents) r)
+    (k ≤ dimensions) × (cell < most k) × ((r : Cell) → CellsFrom program next loops indices cell (drop k (arrayAt (tablesIn tables .arrays) array .extents)) r → CellsFrom program at loops indices 0 (arrayAt (tablesIn tables .arrays) array .extents) r)
 
 abbrev μ-loop : tie.MeasureT-loop
 μ-loop program at tables loops indices array dimensions cell₀ next₀ k₀ cell next k = dimensions - k
@@ -33,16 +34,16 @@ enum-known-number : tie.Need-enum-known-number Inv-loop μ-loop
 enum-known-number c = search needs
 
 returns : tie.Need-returns Inv-loop μ-loop
-returns c = let a = c .before .before .before .before .before .before .before .before .before .args in let l = c .before .before .before .before .before .before .loop in l .inv .2 _ (loop-no _ _ _ (arrayAt (unpacked (a .tables) .arrays) (a .array) .extents) (l .k) (omega arith) (l .next) (l .cell) (c .before .before .before .before .extent-of .result) _ (c .before .before .before .subscript-at .result) (c .before .before .before .before .extent-of .ensures .0) (c .before .before .before .subscript-at .ensures .0) (c .before .number .given .1))
+returns c = let a = c .before .before .before .before .before .before .before .before .before .args in let l = c .before .before .before .before .before .before .loop in l .inv .2 _ (loop-no _ _ _ (arrayAt (tablesIn (a .tables .now) .arrays) (a .array) .extents) (l .k) (omega arith) (l .next) (l .cell) (c .before .before .before .before .extent-of .result) _ (c .before .before .before .subscript-at .result) (c .before .before .before .before .extent-of .ensures .0) (c .before .before .before .subscript-at .ensures .0) (c .before .number .given .1))
 
 enum-known-v : tie.Need-enum-known-v Inv-loop μ-loop
 enum-known-v c = search needs
 
 mul-cell : tie.Need-mul-cell Inv-loop μ-loop
-mul-cell c = let a = c .before .before .before .before .before .before .before .before .before .args in let l = c .before .before .before .before .before .before .loop in let d = dimensions-few (a .tables) (a .array) in let b = below-is _ _ _ (c .before .before .before .subscript-at .result) (c .before .before .before .subscript-at .ensures .1) (c .before .v .given .1) in let f = cell-fits (l .k) (l .cell) (c .before .before .before .before .extent-of .result) (c .before .v .given .0 .0) (omega arith) (l .inv .1) (c .before .before .before .before .extent-of .ensures .1) b in omega arith
+mul-cell c = let a = c .before .before .before .before .before .before .before .before .before .args in let l = c .before .before .before .before .before .before .loop in let d = dimensions-three (a .tables .now) (a .array) in let b = below-is _ _ _ (c .before .before .before .subscript-at .result) (c .before .before .before .subscript-at .ensures .1) (c .before .v .given .1) in let f = cell-fits (l .k) (l .cell) (c .before .before .before .before .extent-of .result) (c .before .v .given .0 .0) (omega arith) (l .inv .1) (c .before .before .before .before .extent-of .ensures .1) b in omega arith
 
 add-cell : tie.Need-add-cell Inv-loop μ-loop
-add-cell c = let a = c .before .before .before .before .before .before .before .before .before .args in let l = c .before .before .before .before .before .before .loop in let d = dimensions-few (a .tables) (a .array) in let b = below-is _ _ _ (c .before .before .before .subscript-at .result) (c .before .before .before .subscript-at .ensures .1) (c .before .v .given .1) in let f = cell-fits (l .k) (l .cell) (c .before .before .before .before .extent-of .result) (c .before .v .given .0 .0) (omega arith) (l .inv .1) (c .before .before .before .before .extent-of .ensures .1) b in omega arith
+add-cell c = let a = c .before .before .before .before .before .before .before .before .before .args in let l = c .before .before .before .before .before .before .loop in let d = dimensions-three (a .tables .now) (a .array) in let b = below-is _ _ _ (c .before .before .before .subscript-at .result) (c .before .before .before .subscript-at .ensures .1) (c .before .v .given .1) in let f = cell-fits (l .k) (l .cell) (c .before .before .before .before .extent-of .result) (c .before .v .given .0 .0) (omega arith) (l .inv .1) (c .before .before .before .before .extent-of .ensures .1) b in omega arith
 
 add-k : tie.Need-add-k Inv-loop μ-loop
 add-k c = omega arith
@@ -51,10 +52,10 @@ loop-less : tie.Need-loop-less Inv-loop μ-loop
 loop-less c = omega arith
 
 loop-again : tie.Need-loop-again Inv-loop μ-loop
-loop-again c = let a = c .before .before .before .before .before .before .before .before .before .args in let l = c .before .before .before .before .before .before .loop in let b = below-is _ _ _ (c .before .before .before .subscript-at .result) (c .before .before .before .subscript-at .ensures .1) (c .before .v .given .1) in (omega arith, grows (l .k) (l .cell) (c .before .before .before .before .extent-of .result) (c .before .v .given .0 .0) (l .inv .1) (c .before .before .before .before .extent-of .ensures .1) b, λ r z. l .inv .2 r (loop-is _ _ _ (arrayAt (unpacked (a .tables) .arrays) (a .array) .extents) (l .k) (omega arith) (l .next) (l .cell) (c .before .before .before .before .extent-of .result) _ _ (c .before .before .before .subscript-at .result) r (c .before .before .before .before .extent-of .ensures .0) (c .before .before .before .subscript-at .ensures .0) (c .before .v .given .1) z))
+loop-again c = let a = c .before .before .before .before .before .before .before .before .before .args in let l = c .before .before .before .before .before .before .loop in let b = below-is _ _ _ (c .before .before .before .subscript-at .result) (c .before .before .before .subscript-at .ensures .1) (c .before .v .given .1) in (omega arith, grows (l .k) (l .cell) (c .before .before .before .before .extent-of .result) (c .before .v .given .0 .0) (l .inv .1) (c .before .before .before .before .extent-of .ensures .1) b, λ r z. l .inv .2 r (loop-is _ _ _ (arrayAt (tablesIn (a .tables .now) .arrays) (a .array) .extents) (l .k) (omega arith) (l .next) (l .cell) (c .before .before .before .before .extent-of .result) _ _ (c .before .before .before .subscript-at .result) r (c .before .before .before .before .extent-of .ensures .0) (c .before .before .before .subscript-at .ensures .0) (c .before .v .given .1) z))
 
 returns-2 : tie.Need-returns-2 Inv-loop μ-loop
-returns-2 c = let a = c .before .before .before .before .args in let l = c .before .loop in l .inv .2 _ (loop-end _ _ _ (arrayAt (unpacked (a .tables) .arrays) (a .array) .extents) (l .k) (l .next) (l .cell) (omega arith))
+returns-2 c = let a = c .before .before .before .before .args in let l = c .before .loop in l .inv .2 _ (loop-end _ _ _ (arrayAt (tablesIn (a .tables .now) .arrays) (a .array) .extents) (l .k) (l .next) (l .cell) (omega arith))
 
 pub cell-at-spec : {M : Type 1} → statement M
 cell-at-spec =

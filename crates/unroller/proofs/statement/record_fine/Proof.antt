@@ -3,7 +3,7 @@ use mathlib.Core.Path.{_∙_}
 use borrow.Author.Tests.{eq-eqb, ne-eqb}
 use Rattle.unroller.proofs.Scan.{record-read, record-other}
 use Rattle.unroller.specs.Writes.{mayRead}
-use Rattle.reader.specs.Entries.{unpacked}
+use Rattle.reader.specs.Entries.{viewed, tablesIn}
 use Rattle.unroller.proofs.statement.record_fine.Statement.{statement}
 use Rattle.unroller.proofs.statement.record_fine.Tie as tie
 
@@ -41,10 +41,10 @@ may-read-requires : tie.Need-may-read-requires
 may-read-requires c κs = search needs
 
 returns : tie.Need-returns
-returns c = let a = c .before .before .before .before .before .before .before .before .args in c .may-read .ensures ∙ record-read (mayRead (unpacked (a .tables)) (a .tables .bases) (a .flags .now)) (a .list .now) (a .at) (eq-eqb _ _ (c .before .before .before .before .before .if1 .taken)) _ _ (c .before .before .before .number .ensures) (c .before .number2 .ensures)
+returns c = let a = c .before .before .before .before .before .before .before .before .args in c .may-read .ensures ∙ record-read (mayRead (tablesIn (a .tables .now)) (viewed (a .tables .now) .bases) (a .flags .now)) (a .list .now) (a .at) (eq-eqb _ _ (c .before .before .before .before .before .if1 .taken)) _ _ (c .before .before .before .number .ensures) (c .before .number2 .ensures)
 
 returns-2 : tie.Need-returns-2
-returns-2 c = let a = c .before .before .before .args in record-other (mayRead (unpacked (a .tables)) (a .tables .bases) (a .flags .now)) (a .list .now) (a .at) (ne-eqb _ _ (c .if1 .left))
+returns-2 c = let a = c .before .before .before .args in record-other (mayRead (tablesIn (a .tables .now)) (viewed (a .tables .now) .bases) (a .flags .now)) (a .list .now) (a .at) (ne-eqb _ _ (c .if1 .left))
 
 pub record-fine-spec : {M : Type 1} → statement M
 record-fine-spec =
