@@ -17,6 +17,7 @@ pub mod UnrollLaws
 pub mod CheckLaws
 mod Cells
 mod Records
+mod Prefix
 mod Scan
 mod Updating
 mod CheckWords

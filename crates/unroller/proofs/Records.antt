@@ -32,7 +32,7 @@ use Rattle.unroller.specs.Forms.{ValueIs, Values}
 use Rattle.unroller.specs.Allowed.{allowedTables}
 use Rattle.unroller.specs.Layout.{treeWords, treesWords}
 use Rattle.unroller.specs.Stands.{basesOf}
-use Rattle.unroller.specs.Writes.{CellIs, CellsFrom, WroteIs, WritesRead, WritesLiteral, WritesConstant, WritesLeaf, WritesNode, WritesOperator, WritesArgs}
+use Rattle.unroller.specs.Writes.{CellIs, CellsFrom, WroteIs, WritesRead, WritesLiteral, WritesConstant, WritesLeaf}
 use Rattle.unroller.specs.declared.forms.Valued.{Valued}
 use Rattle.unroller.specs.declared.forms.Valued.the-variants as valued
 use Rattle.unroller.specs.declared.statement.Cell.{Cell}
@@ -79,7 +79,7 @@ module _ (t : Tables) (p : ℕ) (is : List ℤ) where
   pub words-count : (e : Expr) (x : Tree) → tree e t p is ≡ ok x → length (treeWords x) ≡ 3 * count e
   words-count e x r = tree-length x ∙ ap (λ (n : ℕ). 3 * n) (tree-size e x r)
 
-count-some : (e : Expr) → 1 ≤ count e
+pub count-some : (e : Expr) → 1 ≤ count e
 unfolding count
 count-some (read a fs) = omega arith
 count-some (apply o es) = omega arith
@@ -96,7 +96,7 @@ spot-below t a c p h =
     omega (arith, q .inside, p .fits)
 
 -- words that follow others
-wrote-more : {A B : Type 0} (f : A → List ℕ) (g : B → List ℕ) (make : A → B) (ws : List ℕ) → ((a : A) → g (make a) ≡ ws ++ f a) →
+pub wrote-more : {A B : Type 0} (f : A → List ℕ) (g : B → List ℕ) (make : A → B) (ws : List ℕ) → ((a : A) → g (make a) ≡ ws ++ f a) →
     (list list1 : List ℕ) (to to1 next : ℕ) → list1 ≡ sets list to ws → to1 ≡ to + length ws →
     (k : Ran A) (r : Wrote) (list2 : List ℕ) → WroteIs f list1 to1 next k r list2 → WroteIs g list to next (k >>= λ a. ok (make a)) r list2
 wrote-more f g make ws w list list1 to to1 next e1 e2 (ok a) (wrote.To at end) list2 h =
@@ -233,118 +233,3 @@ module _ (s : List ℕ) (at : ℕ) (t : Tables) (loops : ℕ) (is : List ℤ) (c
   leaf-none x y z k e next p g l i a w =
       let h : _≡_ {A = Outcome Expr} (no 9 k) (got e next) = rw (ne-eqb code 16 x, ne-eqb code 18 y, ne-eqb code 19 z) at g in
       absurd (let z : _≡_ {A = ℕ} 0 1 = cc in omega arith)
-
--- nodes
-module _ (s : List ℕ) (at : ℕ) (t : Tables) (loops : ℕ) (is : List ℤ) (left : ℕ) (list : List ℕ) (to : ℕ) (r : Wrote) (list′ : List ℕ) where
-  pub node-short : length list < to + 3 → WritesNode s at t loops is left list to r list′
-  unfolding WritesNode
-  node-short h e next p g l i a w = absurd (let z = count-some e in omega arith)
-
-  module _ (m : Field) (says : fieldSays m ≡ byte s at) where
-    pub node-no : (k q : ℕ) → m ≡ field.Not k q → WritesNode s at t loops is left list to r list′
-    unfolding WritesNode node
-    node-no k q x e next p g l i a w =
-        let h = field-no says x in
-        read-by (byte s at) _ g λ n at1 e1 r1. absurd (let z : _≡_ {A = ℕ} 0 1 = cc in omega arith)
-
-    module _ (code at1 : ℕ) (x : m ≡ field.Is code at1) where
-      pub node-operator : eqb code 17 ≡ true → WritesOperator s at1 t loops is left list to r list′ → WritesNode s at t loops is left list to r list′
-      unfolding WritesNode WritesOperator node
-      node-operator q h e next p g l i a w =
-          let z : code ≡ 17 = eqb-true code 17 q in
-          let b : byte s at ≡ got 17 at1 = field-got says x ∙ ap (λ (c : ℕ). got c at1) z in
-          h at e next p (rw b at g) l i a w
-
-      pub node-leaf : eqb code 17 ≡ false → WritesLeaf s at1 t loops is code list to r list′ → WritesNode s at t loops is left list to r list′
-      unfolding WritesNode WritesLeaf node
-      node-leaf q h e next p g l i a w =
-          let b : byte s at ≡ got code at1 = field-got says x in
-          h at e next p (rw (b, q) at g) l i a w
-
--- operators
-module _ (s : List ℕ) (at : ℕ) (t : Tables) (loops : ℕ) (is : List ℤ) (left : ℕ) (list : List ℕ) (to : ℕ) (r : Wrote) (list′ : List ℕ) where
-  pub operator-none : left ≡ 0 → WritesOperator s at t loops is left list to r list′
-  unfolding WritesOperator applied
-  operator-none z q e next p g l i a w =
-      let h : _≡_ {A = Outcome Expr} (no 12 q) (got e next) = rw z at g in
-      absurd (let z : _≡_ {A = ℕ} 0 1 = cc in omega arith)
-
-  module _ (m : Field) (says : fieldSays m ≡ index (length (t .arities)) s at) (left1 : ℕ) (z : left ≡ suc left1) where
-    pub operator-no : (k q : ℕ) → m ≡ field.Not k q → WritesOperator s at t loops is left list to r list′
-    unfolding WritesOperator applied applyOf
-    operator-no k q x n e next p g l i a w =
-        let h = field-no says x in
-        let g1 : applied t loops (suc left1) n s at ≡ got e next = rw z at g in
-        read-by (index (length (t .arities)) s at) _ g1 λ o at1 e1 r1. absurd (let z : _≡_ {A = ℕ} 0 1 = cc in omega arith)
-
-    pub operator-is : (o at1 word n : ℕ) (list1 : List ℕ) → m ≡ field.Is o at1 → (o < 4294967296 → word ≡ o) → list1 ≡ sets list to (17 ∷ word ∷ 0 ∷ []) → n ≡ getD (t .arities) o 0 →
-        WritesArgs s at1 t loops is left1 n list1 (to + 3) r list′ → WritesOperator s at t loops is left list to r list′
-    unfolding WritesOperator WritesArgs applied applyOf tree count treeWords
-    operator-is o at1 word n list1 x y f d h q e next p g l i a w =
-        let g1 : applied t loops (suc left1) q s at ≡ got e next = rw z at g in
-        let b : index (length (t .arities)) s at ≡ got o at1 = field-got says x in
-        let ps = tables-parts t a in
-        let few = within-high 0 16 (length (t .arities)) (ps .operators) in
-        let small = index-below (length (t .arities)) s at b in
-        let f1 : list1 ≡ sets list to (17 ∷ o ∷ 0 ∷ []) = f ∙ ap (λ (b : ℕ). sets list to (17 ∷ b ∷ 0 ∷ [])) (y (omega arith)) in
-        read-by (times none more (node t loops (applied t loops left1)) (getD (t .arities) o 0) s at1) _ (rw b at g1) λ es at2 e2 r2.
-        let v : at2 ≡ next = cc in
-        let u : apply o es ≡ e = cc in
-        let c = ap count u in
-        let len = ap length f1 ∙ length-sets list to (17 ∷ o ∷ 0 ∷ []) in
-        got-is (λ e. WroteIs treeWords list to next (tree e t p (take loops is)) r list′) r2
-        (wrote-more treesWords treeWords (operator o) (17 ∷ o ∷ 0 ∷ []) (λ ts. refl) list list1 to (to + 3) next f1 refl (trees es t p (take loops is)) r list′
-        (h es next p (ap (λ (n : ℕ). times none more (node t loops (applied t loops left1)) n s at1) d ∙ e2 ∙ ap (got es) v) l i a (omega arith)))
-
--- arguments, as a loop takes them
-module _ (s : List ℕ) (t : Tables) (loops : ℕ) (is : List ℤ) (left : ℕ) where
-  pub args-end : (at n : ℕ) (list : List ℕ) (to : ℕ) → n ≡ 0 → WritesArgs s at t loops is left n list to (wrote.To at to) list
-  unfolding WritesArgs times trees treesWords
-  args-end at zero list to h es next p g l i a w =
-      got-is (λ es. WroteIs treesWords list to next (trees es t p (take loops is)) (wrote.To at to) list) g (cc, omega arith, refl)
-  args-end at (suc n) list to h es next p g l i a w = absurd (omega arith)
-
-  module _ (at n m : ℕ) (h : n ≡ suc m) (list : List ℕ) (to : ℕ) (r1 : Wrote) (list1 : List ℕ) (x : WritesNode s at t loops is left list to r1 list1) where
-    -- the arguments that stand there, the first of them written
-    args-by : (r : Wrote) (list′ : List ℕ) →
-        ((e : Expr) (es : Exprs) (at1 next p : ℕ) → times none more (node t loops (applied t loops left)) m s at1 ≡ got es next → loops ≤ 8 → length is ≡ 8 → allowedTables t ≡ true
-        → to + 3 * (count e + counts es) ≤ length list → WroteIs treeWords list to at1 (tree e t p (take loops is)) r1 list1
-        → WroteIs treesWords list to next (trees (more e es) t p (take loops is)) r list′) →
-        WritesArgs s at t loops is left n list to r list′
-    unfolding WritesArgs WritesNode times counts
-    args-by r list′ f es next p g l i a w =
-        let g1 : times none more (node t loops (applied t loops left)) (suc m) s at ≡ got es next = rw h at g in
-        read-by (node t loops (applied t loops left) s at) _ g1 λ e at1 e1 v1.
-        read-by (times none more (node t loops (applied t loops left)) m s at1) _ v1 λ ds at2 e2 v2.
-        let z : at2 ≡ next = cc in
-        let u : more e ds ≡ es = cc in
-        let c = ap counts u in
-        let w1 : to + 3 * (count e + counts ds) ≤ length list = omega arith in
-        got-is (λ es. WroteIs treesWords list to next (trees es t p (take loops is)) r list′) v2
-        (f e ds at1 next p (e2 ∙ ap (got ds) z) l i a w1 (x e at1 p e1 l i a (omega arith)))
-
-    pub args-stop : (k : ℕ) (list′ : List ℕ) → r1 ≡ wrote.No k → WritesArgs s at t loops is left n list to (wrote.No k) list′
-    unfolding trees
-    args-stop k list′ q =
-        args-by (wrote.No k) list′ λ e es at1 next p _ _ _ _ _ y. go next (tree e t p (take loops is)) (trees es t p (take loops is)) at1 (subst (λ (r : Wrote). WroteIs treeWords list to at1 (tree e t p (take loops is)) r list1) q y)
-      where
-        go : (next : ℕ) (m : Ran Tree) (n : Ran Trees) (at1 : ℕ) → WroteIs treeWords list to at1 m (wrote.No k) list1 → WroteIs treesWords list to next (m >>= λ x. n >>= λ xs. ok (cons x xs)) (wrote.No k) list′
-        go next (ok x) n at1 y = absurd y
-        go next (stop question place) n at1 y = y
-
-    pub args-step : (at1 to1 : ℕ) (r : Wrote) (list′ : List ℕ) → r1 ≡ wrote.To at1 to1 → WritesArgs s at1 t loops is left m list1 to1 r list′ → WritesArgs s at t loops is left n list to r list′
-    unfolding trees treesWords WritesArgs
-    args-step at1 to1 r list′ q v =
-        args-by r list′ λ e es at2 next p e2 l i a w y.
-        go e es at2 next p e2 l i a w (tree e t p (take loops is)) refl (subst (λ (r : Wrote). WroteIs treeWords list to at2 (tree e t p (take loops is)) r list1) q y)
-      where
-        go : (e : Expr) (es : Exprs) (at2 next p : ℕ) → times none more (node t loops (applied t loops left)) m s at2 ≡ got es next → loops ≤ 8 → length is ≡ 8 → allowedTables t ≡ true
-            → to + 3 * (count e + counts es) ≤ length list → (k : Ran Tree) → tree e t p (take loops is) ≡ k → WroteIs treeWords list to at2 k (wrote.To at1 to1) list1 →
-            WroteIs treesWords list to next (k >>= λ x. trees es t p (take loops is) >>= λ xs. ok (cons x xs)) r list′
-        go e es at2 next p e2 l i a w (ok x) f y =
-            let n = words-count t p (take loops is) e x f in
-            let len = ap length (y .2) ∙ length-sets list to (treeWords x) in
-            let d = y .1 in
-            wrote-more treesWords treesWords (cons x) (treeWords x) (λ ts. refl) list list1 to to1 next (y .2) (y .1) (trees es t p (take loops is)) r list′
-            (v es next p (ap (λ (q : ℕ). times none more (node t loops (applied t loops left)) m s q) (y .0) ∙ e2) l i a (omega arith))
-        go e es at2 next p e2 l i a w (stop question place) f y = absurd y

@@ -26,9 +26,8 @@ use Rattle.unroller.specs.Run.{Ran, ok, stop, Done, runs, nothing, runPr
 use Rattle.unroller.specs.Layout.{padded, tableWords, words, layout}
 use Rattle.unroller.specs.Stands.{basesFrom, basesOf}
 use Rattle.unroller.specs.Unroll as Unroll
-use Rattle.unroller.specs.Walk.{Holds, Walked, Based, RunsItems}
+use Rattle.unroller.specs.Walk.{Progress, on, Holds, Walked, Based, RunsItems}
 use Rattle.unroller.specs.UnrollAnswers.{unrolledSays, headWords, Unrolls}
-use Rattle.unroller.specs.declared.walk.Progress.{Progress}
 use Rattle.unroller.specs.declared.walk.Walk.{Walk}
 use Rattle.unroller.specs.declared.walk.Walk.the-variants as walk
 use Rattle.unroller.specs.declared.entry.Unrolled.the-variants as unrolled
@@ -139,7 +138,7 @@ module _ (t : Tables) (end : ℕ) (list list₂ flags₂ : List ℕ) (same-lengt
   abbrev Told : Ran Done → Unroll.Unrolled → List ℕ → Type 0
   Told m u l = (u ≡ Unroll.unrollReplyBy (Unroll.listedBy t m)) × (l ≡ Unroll.wordsOf (Unroll.listedBy t m) (length list))
 
-  told-on : (m : Ran Done) (to : ℕ) (p : Progress) → Walked t end m (walk.On to p) list₂ flags₂ → Told m (Unroll.updates (p .updates)) list₂
+  told-on : (m : Ran Done) (to : ℕ) (p : Progress) → Walked t end m (on to p) list₂ flags₂ → Told m (Unroll.updates (p .updates)) list₂
   told-on (ok d) to p w = (ap Unroll.updates (w .1 .updates), w .1 .lies ∙ ap (layout (record { tables = t; updates = d .updates })) same-length)
   told-on (stop k q) to p w = absurd w
 
@@ -166,7 +165,7 @@ module _ (s list : List ℕ) (r : TablesRead) (are : TablesAre (tables s 0) r) w
         subst (λ (u : Tables). RunsItems s first u (viewed numbers .bases) 8 0 (replicate 8 (pos 0)) (record { rounds = 0; nodes = 0; updates = 0 }) list₁ (replicate 2048 0) w₀ list₂ flags₂) x ran in
         v js end (length s) nothing (ap (λ (at : ℕ). body t (length s) 8 0 s at) y ∙ e2) (omega arith) refl b (begins s r are t m e1 first c list list₁ long z h)
 
-    pub run-on : (to : ℕ) (d : Progress) → w₀ ≡ walk.On to d → Unrolls s list (unrolled.Updates (d .updates)) list₂
+    pub run-on : (to : ℕ) (d : Progress) → w₀ ≡ on to d → Unrolls s list (unrolled.Updates (d .updates)) list₂
     unfolding Unrolls runProgram
     run-on to d case p next e z = program-by s e λ t m js end e1 e2 x.
         rw x (told-on t end list list₂ flags₂ same-length (runs js t [] nothing) to d (subst (λ (w : Walk). Walked t end (runs js t [] nothing) w list₂ flags₂) case (walked t m js end e1 e2 z)))

@@ -1,14 +1,14 @@
 -- One executed statement: from its parts to the run's answer.
 use mathlib.Core.Path.{_≡_, refl, sym, ap, ap₂, _∙_, subst}
-use Prim.Native.Nat.{ℕ, _+_, _-_, _*_, _≤_, _<_}
+use Prim.Native.Nat.{ℕ, _+_, _-_, _*_, _/_, _≤_, _<_}
 use native.Mathlib.Omega.{arith}
 use mathlib.Core.List.{List, [], _∷_, _++_, append-assoc}
 use mathlib.Core.Bool.{Bool, true, false, not}
 use lib.ListN.{length, getD, take, drop, set, length-append, length-set, length-take}
 use lib.Seq.{sets, sets-eq, length-sets, drop-at}
-use lib.Dec.{ltb, eqb}
+use lib.Dec.{ltb, leb, eqb}
 use lib.IntN.{ℤ, pos, negsuc}
-use borrow.Author.Tests.{le-leb, lt-leb, lt-ltb, le-ltb, ltb-true, ltb-false}
+use borrow.Author.Tests.{le-leb, lt-leb, lt-ltb, le-ltb, ltb-true, ltb-false, leb-true, leb-false}
 use Rattle.model.specs.Tables.{Tables, arrayAt, inside}
 use Rattle.model.specs.Update.{Tree, Update, size, nodes}
 use Rattle.model.specs.Update.Tree.{cell as cellOf, number, operator}
@@ -25,19 +25,20 @@ use Rattle.reader.specs.declared.fields.Place.{Place}
 use Rattle.reader.specs.declared.fields.Place.the-variants as place
 use Rattle.reader.proofs.Binds.{read-by, asked-by, got-is}
 use Rattle.reader.proofs.Steps.{field-got, field-no}
-use Rattle.reader.proofs.Forward.{held-got, index-held}
+use Rattle.reader.proofs.Forward.{held-got, index-held, Counted, nodes-held}
 use Rattle.unroller.specs.Run.{Ran, ok, stop, _>>=_, ask, fits32, valueAt, worked, inExtent, cellFrom, cellAt, tree, trees, readable, Done, update, run}
 use Rattle.unroller.specs.Layout.{treeWords, updateWords, words, layout}
 use Rattle.unroller.specs.Stands.{basesOf}
-use Rattle.unroller.specs.Walk.{Based, Holds, Walked, RunsStatement}
-use Rattle.unroller.specs.Writes.{CellIs, CellsFrom, WroteIs, WritesNode, spot, mayRead, scanned, Marks, UpdateIs, updateOf, Stated, WritesUpdate, Sources, RunsUpdate, RunsTarget}
-use Rattle.unroller.specs.declared.walk.Progress.{Progress}
+use Rattle.unroller.specs.Walk.{Progress, on, Based, Holds, Walked, RunsStatement}
+use Rattle.unroller.specs.Writes.{CellIs, CellsFrom, WroteIs, WritesNode, spot, mayRead, scanned, Marks, UpdateIs, Within, updateOf, Stated, WritesUpdate, Sources, FewNodes, RunsUpdate}
 use Rattle.unroller.specs.declared.walk.Walk.{Walk}
 use Rattle.unroller.specs.declared.walk.Walk.the-variants as walk
 use Rattle.unroller.specs.declared.statement.Cell.{Cell}
 use Rattle.unroller.specs.declared.statement.Cell.the-variants as cell
 use Rattle.unroller.specs.declared.statement.Wrote.{Wrote}
 use Rattle.unroller.specs.declared.statement.Wrote.the-variants as wrote
+use Rattle.unroller.specs.declared.statement.Target.{Target}
+use Rattle.unroller.specs.declared.statement.Target.the-variants as target
 use Rattle.unroller.proofs.Parts.{within-high, tables-parts, nodes-snoc}
 use Rattle.unroller.proofs.Laws.{words-long, layout-snoc}
 use Rattle.unroller.proofs.Runs.{run-by, ok-is}
@@ -147,38 +148,38 @@ module _ (p : ℕ) (is : List ℤ) where
         (λ c. at-then p (tree e t p is) (λ x. ok (record { array = a; target = c; source = x })) (tree-at e) (λ _. tt))
 
 -- the record of a target and the expression's behind it
-abbrev pub outOf : ℕ → Wrote → Cell
-outOf c (wrote.To next end) = cell.Is c next
-outOf c (wrote.No k) = cell.No k
+abbrev pub outOf : ℕ → Wrote → Target
+outOf c (wrote.To next end) = target.Is c next end
+outOf c (wrote.No k) = target.No k
 
-module _ (s : List ℕ) (a at source : ℕ) (t : Tables) (loops : ℕ) (is : List ℤ) (list : List ℕ) (to : ℕ) (list′ : List ℕ)
+module _ (s : List ℕ) (a at : ℕ) (t : Tables) (loops : ℕ) (is : List ℤ) (list : List ℕ) (to : ℕ) (list′ : List ℕ)
     (m : Cell) (y : CellsFrom s at loops is 0 (arrayAt (t .arrays) a .extents) m) where
-  target-cell : (fs : List Form) (e : Expr) (next p : ℕ) → Stated s at source t loops is a fs e next → CellIs (cellAt t p (take loops is) a fs) source m
+  target-cell : (fs : List Form) (source : ℕ) (e : Expr) (next p : ℕ) → Stated s at source t loops is a fs e next → CellIs (cellAt t p (take loops is) a fs) source m
   unfolding CellsFrom cellAt subscripts
-  target-cell fs e next p st = y fs source p (st .target) (st .few-loops) (st .eight)
+  target-cell fs source e next p st = y fs source p (st .target) (st .few-loops) (st .eight)
 
-  pub target-no : (k : ℕ) → m ≡ cell.No k → WritesUpdate s a at source t loops is list to (cell.No k) list′
+  pub target-no : (k : ℕ) → m ≡ cell.No k → WritesUpdate s a at t loops is list to (target.No k) list′
   unfolding WritesUpdate
-  target-no k q fs e next p st al room =
-      go (cellAt t p (take loops is) a fs) (tree e t p (take loops is)) (subst (λ (m : Cell). CellIs (cellAt t p (take loops is) a fs) source m) q (target-cell fs e next p st))
+  target-no k q fs source e next p st al room =
+      go (cellAt t p (take loops is) a fs) (tree e t p (take loops is)) (subst (λ (m : Cell). CellIs (cellAt t p (take loops is) a fs) source m) q (target-cell fs source e next p st))
     where
-      go : (n : Ran ℕ) (x : Ran Tree) → CellIs n source (cell.No k) → UpdateIs list to next (n >>= λ c. x >>= λ x. ok (record { array = a; target = c; source = x })) (cell.No k) list′
+      go : (n : Ran ℕ) (x : Ran Tree) → CellIs n source (cell.No k) → UpdateIs list to next (n >>= λ c. x >>= λ x. ok (record { array = a; target = c; source = x })) (target.No k) list′
       go (ok c) x h = absurd h
       go (stop question place) x h = h
 
   module _ (b : Bytes s) (c n word1 word2 : ℕ) (q : m ≡ cell.Is c n) (u : a < 4294967296 → word1 ≡ a) (v : c < 4294967296 → word2 ≡ c)
-      (list1 : List ℕ) (w : list1 ≡ sets list to (1 ∷ word1 ∷ word2 ∷ [])) (r : Wrote) (z : WritesNode s source t loops is 12 list1 (to + 3) r list′) where
-    written : WritesUpdate s a at source t loops is list to (outOf c r) list′
+      (list1 : List ℕ) (w : list1 ≡ sets list to (1 ∷ word1 ∷ word2 ∷ [])) (r : Wrote) (z : WritesNode s n t loops is 12 list1 (to + 3) r list′) where
+    written : WritesUpdate s a at t loops is list to (outOf c r) list′
     unfolding WritesUpdate WritesNode expression
-    written fs e next p st al room =
-        go (cellAt t p (take loops is) a fs) refl (subst (λ (m : Cell). CellIs (cellAt t p (take loops is) a fs) source m) q (target-cell fs e next p st))
+    written fs source e next p st al room =
+        go (cellAt t p (take loops is) a fs) refl (subst (λ (m : Cell). CellIs (cellAt t p (take loops is) a fs) source m) q (target-cell fs source e next p st))
       where
         few : a < 4294967296
         few = let f = within-high 1 16 (length (t .arrays)) (tables-parts t al .count) in let d = st .declared in omega arith
 
         last : (c1 : ℕ) → c ≡ c1 → list1 ≡ sets list to (1 ∷ a ∷ c1 ∷ []) → (k : Ran Tree) (r : Wrote) → WroteIs treeWords list1 (to + 3) next k r list′ →
             UpdateIs list to next (k >>= λ x. ok (record { array = a; target = c1; source = x })) (outOf c r) list′
-        last c1 i j (ok x) (wrote.To nx end) h = (i, h .0, h .2 ∙ ap (λ (l : List ℕ). sets l (to + 3) (treeWords x)) j ∙ sym (sets-append list to (1 ∷ a ∷ c1 ∷ []) (treeWords x)))
+        last c1 i j (ok x) (wrote.To nx end) h = let l = h .1 in (i, h .0, omega arith, h .2 ∙ ap (λ (l : List ℕ). sets l (to + 3) (treeWords x)) j ∙ sym (sets-append list to (1 ∷ a ∷ c1 ∷ []) (treeWords x)))
         last c1 i j (ok x) (wrote.No k) h = absurd h
         last c1 i j (stop question place) (wrote.To nx end) h = absurd h
         last c1 i j (stop question place) (wrote.No k) h = h
@@ -191,14 +192,14 @@ module _ (s : List ℕ) (a at source : ℕ) (t : Tables) (loops : ℕ) (is : Lis
             let same = h .0 in
             let j : list1 ≡ sets list to (1 ∷ a ∷ c1 ∷ []) = w ∙ ap₂ (λ (x y : ℕ). sets list to (1 ∷ x ∷ y ∷ [])) (u few) (v (omega arith) ∙ same) in
             let len = ap length j ∙ length-sets list to (1 ∷ a ∷ c1 ∷ []) in
-            last c1 same j (tree e t p (take loops is)) r (z e next p (st .behind) (st .few-loops) (st .eight) al (omega arith))
+            last c1 same j (tree e t p (take loops is)) r (z e next p (ap (expression t loops s) (h .1) ∙ st .behind) (st .few-loops) (st .eight) al (omega arith))
         go (stop question place) f h = absurd h
 
-    pub written-no : (k : ℕ) → r ≡ wrote.No k → WritesUpdate s a at source t loops is list to (cell.No k) list′
-    written-no k x = subst (λ (r : Wrote). WritesUpdate s a at source t loops is list to (outOf c r) list′) x written
+    pub written-no : (k : ℕ) → r ≡ wrote.No k → WritesUpdate s a at t loops is list to (target.No k) list′
+    written-no k x = subst (λ (r : Wrote). WritesUpdate s a at t loops is list to (outOf c r) list′) x written
 
-    pub written-is : (next end : ℕ) → r ≡ wrote.To next end → WritesUpdate s a at source t loops is list to (cell.Is c next) list′
-    written-is next end x = subst (λ (r : Wrote). WritesUpdate s a at source t loops is list to (outOf c r) list′) x written
+    pub written-is : (next end : ℕ) → r ≡ wrote.To next end → WritesUpdate s a at t loops is list to (target.Is c next end) list′
+    written-is next end x = subst (λ (r : Wrote). WritesUpdate s a at t loops is list to (outOf c r) list′) x written
 
 drop-run : (l : List ℕ) (i : ℕ) (vs : List ℕ) → i + length vs ≤ length l → drop i (sets l i vs) ≡ vs ++ drop (i + length vs) l
 drop-run l i vs h = ap (drop i) (sets-eq vs l i h ∙ append-assoc (take i l) vs (drop (i + length vs) l)) ∙ drop-at (take i l) (vs ++ drop (i + length vs) l) i (let e = length-take i l in omega arith)
@@ -208,9 +209,9 @@ unfolding expression
 expression-sound t loops s b at e next g = node-sound t loops s b 12 (applied t loops 12) (λ p at e next r. applied-sound t loops s b 12 p at e next r) at e next g
 
 -- behind questions 19 and 20
-module _ (s : List ℕ) (p a at source n : ℕ) (t : Tables) (bases : List ℕ) (loops : ℕ) (is : List ℤ) (progress : Progress) (list flags : List ℕ) (to : ℕ)
-    (z : to ≡ 98 + 3 * (progress .updates + progress .nodes)) (few : progress .updates < 2048) (small : progress .nodes + n ≤ 8192) (long : 32768 ≤ length list)
-    (b : Bytes s) (m : Cell) (list1 : List ℕ) (w : WritesUpdate s a at source t loops is list to m list1) where
+module _ (s : List ℕ) (p a at : ℕ) (t : Tables) (bases : List ℕ) (loops : ℕ) (is : List ℤ) (progress : Progress) (list flags : List ℕ) (to : ℕ)
+    (z : to ≡ 98 + 3 * (progress .updates + progress .nodes)) (few : progress .updates < 2048) (long : 32768 ≤ length list)
+    (b : Bytes s) (m : Target) (list1 : List ℕ) (w : WritesUpdate s a at t loops is list to m list1) where
   abbrev made : ℕ → Tree → Update
   made c x = record { array = a; target = c; source = x }
 
@@ -220,7 +221,7 @@ module _ (s : List ℕ) (p a at source n : ℕ) (t : Tables) (bases : List ℕ) 
   abbrev rest : Done → Expr → Update → Ran Done
   rest d e u = ask 17 p (readable (u .source) (t .arrays) (d .updates)) >>= λ _. ok (done d e u)
 
-  split : (fs : List Form) (e : Expr) (d : Done) → n ≡ count e → Holds t d progress list flags → update t p (take loops is) a fs e d ≡ (updateOf t p (take loops is) a fs e >>= rest d e)
+  split : (fs : List Form) (e : Expr) (d : Done) → progress .nodes + count e ≤ 8192 → Holds t d progress list flags → update t p (take loops is) a fs e d ≡ (updateOf t p (take loops is) a fs e >>= rest d e)
   unfolding update
   split fs e d q h =
       let x = h .updates in
@@ -233,92 +234,98 @@ module _ (s : List ℕ) (p a at source n : ℕ) (t : Tables) (bases : List ℕ) 
       go (stop question q) l = refl
 
   abbrev Goal : Walk → List ℕ → List ℕ → Type 0
-  Goal r list′ flags′ = RunsUpdate s p a at source n t bases loops is progress list flags r list′ flags′
+  Goal r list′ flags′ = RunsUpdate s p a at t bases loops is progress list flags r list′ flags′
 
   by-update : (r : Walk) (list′ flags′ : List ℕ) →
-      ((fs : List Form) (e : Expr) (next : ℕ) (d : Done) → Stated s at source t loops is a fs e next → n ≡ count e → Based t bases → Holds t d progress list flags
+      ((fs : List Form) (source : ℕ) (e : Expr) (next : ℕ) (d : Done) → Stated s at source t loops is a fs e next → progress .nodes + count e ≤ 8192 → Based t bases → Holds t d progress list flags
       → (k : Ran Update) → updateOf t p (take loops is) a fs e ≡ k → UpdateIs list to next k m list1 → Walked t next (k >>= rest d e) r list′ flags′) → Goal r list′ flags′
   unfolding RunsUpdate WritesUpdate
-  by-update r list′ flags′ f fs e next d st q bs h =
+  by-update r list′ flags′ f fs source e next d st q bs h =
       subst (λ (k : Ran Done). Walked t next k r list′ flags′) (sym (split fs e d q h))
-      (f fs e next d st q bs h (updateOf t p (take loops is) a fs e) refl (w fs e next p st (h .tables-allowed) (omega arith)))
+      (let x = h .updates in let y = h .count in f fs source e next d st q bs h (updateOf t p (take loops is) a fs e) refl (w fs source e next p st (h .tables-allowed) (omega arith)))
 
-  pub run-no : (k : ℕ) (list′ flags′ : List ℕ) → m ≡ cell.No k → Goal (walk.No k p) list′ flags′
+  pub run-no : (k : ℕ) (list′ flags′ : List ℕ) → m ≡ target.No k → Goal (walk.No k p) list′ flags′
   run-no k list′ flags′ x =
-      by-update (walk.No k p) list′ flags′ λ fs e next d st q bs h o f y.
-      go next d e o (subst (λ (o : Ran Update). At p o) f (update-at p (take loops is) t a fs e)) (subst (λ (m : Cell). UpdateIs list to next o m list1) x y)
+      by-update (walk.No k p) list′ flags′ λ fs source e next d st q bs h o f y.
+      go next d e o (subst (λ (o : Ran Update). At p o) f (update-at p (take loops is) t a fs e)) (subst (λ (m : Target). UpdateIs list to next o m list1) x y)
     where
-      go : (next : ℕ) (d : Done) (e : Expr) (o : Ran Update) → At p o → UpdateIs list to next o (cell.No k) list1 → Walked t next (o >>= rest d e) (walk.No k p) list′ flags′
+      go : (next : ℕ) (d : Done) (e : Expr) (o : Ran Update) → At p o → UpdateIs list to next o (target.No k) list1 → Walked t next (o >>= rest d e) (walk.No k p) list′ flags′
       go next d e (ok u) i y = absurd y
       go next d e (stop question q) i y = (y, sym i)
 
-  module _ (c past : ℕ) (x : m ≡ cell.Is c past) where
+  module _ (c past end n : ℕ) (x : m ≡ target.Is c past end) (quot : (j : ℕ) → end ≡ to + 3 + 3 * j → n ≡ j) where
     -- what an update that was written is known by
-    record Known (fs : List Form) (e : Expr) (next : ℕ) (d : Done) (u : Update) : Type 0 where
+    record Known (e : Expr) (next : ℕ) (d : Done) (u : Update) : Type 0 where
       array : u .array ≡ a
       target : u .target ≡ c
       place : past ≡ next
       cell-in : inside (t .arrays) a (u .target) ≡ true
+      counted : n ≡ count e
       nodes-are : size (u .source) ≡ n
       list-is : list1 ≡ sets list to (updateWords u)
       reads : scanned (mayRead t bases flags) n (drop (to + 3) list1) ≡ readable (u .source) (t .arrays) (d .updates)
 
-    known : (fs : List Form) (e : Expr) (next : ℕ) (d : Done) → Stated s at source t loops is a fs e next → n ≡ count e → Based t bases → Holds t d progress list flags →
-        (c1 : ℕ) (x1 : Tree) → cellAt t p (take loops is) a fs ≡ ok c1 → tree e t p (take loops is) ≡ ok x1 → UpdateIs list to next (ok (made c1 x1)) (cell.Is c past) list1 → Known fs e next d (made c1 x1)
-    known fs e next d st q bs h c1 x1 f1 f2 y =
+    known : (fs : List Form) (source : ℕ) (e : Expr) (next : ℕ) (d : Done) → Stated s at source t loops is a fs e next → progress .nodes + count e ≤ 8192 → Based t bases → Holds t d progress list flags →
+        (c1 : ℕ) (x1 : Tree) → cellAt t p (take loops is) a fs ≡ ok c1 → tree e t p (take loops is) ≡ ok x1 → UpdateIs list to next (ok (made c1 x1)) (target.Is c past end) list1 → Known e next d (made c1 x1)
+    known fs source e next d st q bs h c1 x1 f1 f2 y =
         let parts = tables-parts t (h .tables-allowed) in
         let i = cell-at-inside t p (take loops is) a fs (subscripts-length t loops s b a at (st .target)) f1 in
         let pr = tree-proper t p (take loops is) e 12 x1 (expression-sound t loops s b source e next (st .behind)) f2 in
         let len = words-count t p (take loops is) e x1 f2 in
+        let hu = h .updates in
+        let hc = h .count in
+        let here = y .2 in
+        let nc : n ≡ count e = quot (count e) (omega arith) in
         let base : List ℕ = sets list to (1 ∷ a ∷ c1 ∷ []) in
         let l1 = length-sets list to (1 ∷ a ∷ c1 ∷ []) in
-        let whole : list1 ≡ sets base (to + 3) (treeWords x1) = y .2 ∙ sets-append list to (1 ∷ a ∷ c1 ∷ []) (treeWords x1) in
+        let whole : list1 ≡ sets base (to + 3) (treeWords x1) = y .3 ∙ sets-append list to (1 ∷ a ∷ c1 ∷ []) (treeWords x1) in
         let cut : drop (to + 3) list1 ≡ treeWords x1 ++ drop (to + 3 + length (treeWords x1)) base = ap (drop (to + 3)) whole ∙ drop-run base (to + 3) (treeWords x1) (omega arith) in
         record {
           array = refl;
           target = sym (y .0);
           place = y .1;
           cell-in = i;
-          nodes-are = pr .1 ∙ sym q;
-          list-is = y .2;
+          counted = nc;
+          nodes-are = pr .1 ∙ sym nc;
+          list-is = y .3;
           reads = ap (scanned (mayRead t bases flags) n) cut
-              ∙ scan-whole (mayRead t bases flags) x1 n (drop (to + 3 + length (treeWords x1)) base) (q ∙ sym (pr .1))
+              ∙ scan-whole (mayRead t bases flags) x1 n (drop (to + 3 + length (treeWords x1)) base) (nc ∙ sym (pr .1))
               ∙ fine-readable (mayRead t bases flags) t (d .updates) (may-is t bases parts bs flags (d .updates) (h .marked)) x1 12 (pr .0);
         }
 
     by-known : (r : Walk) (list′ flags′ : List ℕ) →
-        ((fs : List Form) (e : Expr) (next : ℕ) (d : Done) (u : Update) → n ≡ count e → Based t bases → Holds t d progress list flags → Known fs e next d u → Walked t next (rest d e u) r list′ flags′)
+        ((e : Expr) (next : ℕ) (d : Done) (u : Update) → progress .nodes + count e ≤ 8192 → Based t bases → Holds t d progress list flags → Known e next d u → Walked t next (rest d e u) r list′ flags′)
         → Goal r list′ flags′
     by-known r list′ flags′ g =
-        by-update r list′ flags′ λ fs e next d st q bs h o f y. go fs e next d st q bs h o f (subst (λ (m : Cell). UpdateIs list to next o m list1) x y)
+        by-update r list′ flags′ λ fs source e next d st q bs h o f y. go fs source e next d st q bs h o f (subst (λ (m : Target). UpdateIs list to next o m list1) x y)
       where
-        go : (fs : List Form) (e : Expr) (next : ℕ) (d : Done) → Stated s at source t loops is a fs e next → n ≡ count e → Based t bases → Holds t d progress list flags →
-            (o : Ran Update) → updateOf t p (take loops is) a fs e ≡ o → UpdateIs list to next o (cell.Is c past) list1 → Walked t next (o >>= rest d e) r list′ flags′
-        go fs e next d st q bs h (ok u) f y =
-            g fs e next d u q bs h
+        go : (fs : List Form) (source : ℕ) (e : Expr) (next : ℕ) (d : Done) → Stated s at source t loops is a fs e next → progress .nodes + count e ≤ 8192 → Based t bases → Holds t d progress list flags →
+            (o : Ran Update) → updateOf t p (take loops is) a fs e ≡ o → UpdateIs list to next o (target.Is c past end) list1 → Walked t next (o >>= rest d e) r list′ flags′
+        go fs source e next d st q bs h (ok u) f y =
+            g e next d u q bs h
             (run-by (cellAt t p (take loops is) a fs) _ f λ c1 f1 r1.
             run-by (tree e t p (take loops is)) _ r1 λ x1 f2 r2.
-            ok-is (λ u. UpdateIs list to next (ok u) (cell.Is c past) list1 → Known fs e next d u) r2 (λ y. known fs e next d st q bs h c1 x1 f1 f2 y) y)
-        go fs e next d st q bs h (stop question place) f y = absurd y
+            ok-is (λ u. UpdateIs list to next (ok u) (target.Is c past end) list1 → Known e next d u) r2 (λ y. known fs source e next d st q bs h c1 x1 f1 f2 y) y)
+        go fs source e next d st q bs h (stop question place) f y = absurd y
 
     -- some cell read is not written
     pub run-unread : (r : Bool) (list′ flags′ : List ℕ) → r ≡ scanned (mayRead t bases flags) n (drop (to + 3) list1) → r ≡ false → Goal (walk.No 17 p) list′ flags′
     run-unread r list′ flags′ v y =
-        by-known (walk.No 17 p) list′ flags′ λ fs e next d u q bs h k.
+        by-known (walk.No 17 p) list′ flags′ λ e next d u q bs h k.
         let i : readable (u .source) (t .arrays) (d .updates) ≡ false = sym (v ∙ k .reads) ∙ y in
         rw i (refl, refl)
 
     pub run-on : (r : Bool) (flags′ : List ℕ) → r ≡ scanned (mayRead t bases flags) n (drop (to + 3) list1) → r ≡ true → (k : ℕ) → k ≡ spot bases a c → Marks flags k flags′ →
-        (after : Progress) → (after .rounds ≡ progress .rounds) × (after .nodes ≡ progress .nodes + n) × (after .updates ≡ progress .updates + 1) → Goal (walk.On past after) list1 flags′
+        (after : Progress) → (after .rounds ≡ progress .rounds) × (after .nodes ≡ progress .nodes + n) × (after .updates ≡ progress .updates + 1) → Goal (on past after) list1 flags′
     unfolding Marks
     run-on r flags′ v y k f marks after so =
-        by-known (walk.On past after) list1 flags′ λ fs e next d u q bs h o.
+        by-known (on past after) list1 flags′ λ e next d u q bs h o.
         let i : readable (u .source) (t .arrays) (d .updates) ≡ true = sym (v ∙ o .reads) ∙ y in
-        rw i (o .place, holds e next d u q bs h (o .array) (o .target) (o .cell-in) (o .nodes-are) (o .list-is))
+        rw i (o .place, holds e next d u (o .counted) q bs h (o .array) (o .target) (o .cell-in) (o .nodes-are) (o .list-is))
       where
-        holds : (e : Expr) (next : ℕ) (d : Done) (u : Update) → n ≡ count e → Based t bases → Holds t d progress list flags → u .array ≡ a → u .target ≡ c → inside (t .arrays) a (u .target) ≡ true →
+        holds : (e : Expr) (next : ℕ) (d : Done) (u : Update) → n ≡ count e → progress .nodes + count e ≤ 8192 → Based t bases → Holds t d progress list flags → u .array ≡ a → u .target ≡ c → inside (t .arrays) a (u .target) ≡ true →
             size (u .source) ≡ n → list1 ≡ sets list to (updateWords u) → Holds t (done d e u) after list1 flags′
-        holds e next d u q bs h ua ut ci ns li =
+        holds e next d u nc q bs h ua ut ci ns li =
             let parts = tables-parts t (h .tables-allowed) in
             let within : inside (t .arrays) (u .array) (u .target) ≡ true = subst (λ (a : ℕ). inside (t .arrays) a (u .target) ≡ true) (sym ua) ci in
             let sp : k ≡ getD (basesOf (t .arrays)) (u .array) 0 + u .target = f ∙ ap₂ (spot bases) (sym ua) (sym ut) ∙ spot-is t bases parts bs (u .array) (u .target) within in
@@ -354,37 +361,31 @@ module _ (s : List ℕ) (p a at source n : ℕ) (t : Tables) (bases : List ℕ) 
               marked = marked-more t bases parts bs flags (d .updates) (h .flags-long) (h .marked) u within flags′ set-is;
             }
 
--- behind question 19
-module _ (s : List ℕ) (p a at : ℕ) (t : Tables) (bases : List ℕ) (loops : ℕ) (is : List ℤ) (progress : Progress) (list flags : List ℕ) (r : Walk) (list′ flags′ : List ℕ) where
-  abbrev Aimed : Type 0
-  Aimed = RunsTarget s p a at t bases loops is progress list flags r list′ flags′
+-- question 20
+module _ (s : List ℕ) (at : ℕ) (t : Tables) (loops a n : ℕ) where
+  -- no expression has more nodes than the file has bytes
+  pub few-bytes : ltb 8192 (n + length s) ≡ false → FewNodes s at t loops a n true
+  unfolding FewNodes expression
+  few-bytes h fs source e next g x =
+      let v = held-got (Counted s t loops source) (nodes-held s t loops 12 source) x in
+      let k = ltb-false 8192 (n + length s) h in
+      sym (le-leb (n + count e) 8192 (omega (arith, v .0, v .1)))
 
-  module _ (n : Field) (tells : Sources s at t loops a n) where
-    found : (source : ℕ) (fs : List Form) (e : Expr) (next : ℕ) → Stated s at source t loops is a fs e next → n ≡ field.Is (count e) source
-    unfolding Sources
-    found source fs e next st = tells fs source e next (st .target) (st .behind)
+  module _ (m : Field) (tells : Sources s at t loops a m) where
+    pub few-none : (k q : ℕ) → m ≡ field.Not k q → (r : Bool) → FewNodes s at t loops a n r
+    unfolding FewNodes Sources
+    few-none k q y r fs source e next g x = let v = tells fs source e next g x in absurd (let z : _≡_ {A = ℕ} 0 1 = cc in omega arith)
 
-    pub no-source : (k q : ℕ) → n ≡ field.Not k q → Aimed
-    unfolding RunsTarget
-    no-source k q y source fs e next d st bs h = let v = found source fs e next st in absurd (let z : _≡_ {A = ℕ} 0 1 = cc in omega arith)
-
-    module _ (c source : ℕ) (y : n ≡ field.Is c source) where
-      pub asked-20 : progress .updates < 2048 → r ≡ walk.No 20 p → 8192 < progress .nodes + c → Aimed
-      unfolding RunsTarget update
-      asked-20 few q g source1 fs e next d st bs h =
-          let v = found source1 fs e next st in
-          let k = h .updates in
-          let l = h .count in
-          let z : c ≡ count e = cc in
-          rw (q, le-leb (length (d .updates) + 1) 2048 (omega arith), lt-leb (d .nodes + count e) 8192 (omega arith)) (refl, refl)
-
-      pub updated : RunsUpdate s p a at source c t bases loops is progress list flags r list′ flags′ → Aimed
-      unfolding RunsTarget RunsUpdate
-      updated u source1 fs e next d st bs h =
-          let v = found source1 fs e next st in
-          let z : c ≡ count e = cc in
-          let w : source1 ≡ source = cc in
-          u fs e next d (subst (λ (q : ℕ). Stated s at q t loops is a fs e next) w st) z bs h
+    pub few-told : (c source : ℕ) → m ≡ field.Is c source → (b : Bool) → b ≡ ltb 8192 (n + c) → FewNodes s at t loops a n (not b)
+    unfolding FewNodes Sources
+    few-told c source1 y b w fs source e next g x =
+        let v = tells fs source e next g x in
+        let z : c ≡ count e = cc in
+        go b (w ∙ ap (λ (k : ℕ). ltb 8192 (n + k)) z)
+      where
+        go : (b : Bool) → b ≡ ltb 8192 (n + count e) → not b ≡ leb (n + count e) 8192
+        go true h = sym (lt-leb (n + count e) 8192 (ltb-true 8192 (n + count e) (sym h)))
+        go false h = sym (le-leb (n + count e) 8192 (ltb-false 8192 (n + count e) (sym h)))
 
 -- the whole statement
 module _ (s : List ℕ) (at : ℕ) (t : Tables) (bases : List ℕ) (loops : ℕ) (is : List ℤ) (progress : Progress) (list flags : List ℕ) (r : Walk) (list′ flags′ : List ℕ) where
@@ -415,18 +416,48 @@ module _ (s : List ℕ) (at : ℕ) (t : Tables) (bases : List ℕ) (loops : ℕ)
   pub no-list : length list < 32768 → Runs
   no-list x = by-statement λ a target source fs e next d i st bs h. absurd (let k = h .long in omega arith)
 
+  pub many-nodes : 8192 < progress .nodes → Runs
+  many-nodes x = by-statement λ a target source fs e next d i st bs h. absurd (let k = h .count in let l = h .small in omega arith)
+
   module _ (m : Field) (says : fieldSays m ≡ index (length (t .arrays)) s (at + 1)) where
     pub no-array : (k q : ℕ) → m ≡ field.Not k q → Runs
     no-array k q x =
         let v = field-no says x in
         by-statement λ a target source fs e next d i st bs h. absurd (let z : _≡_ {A = ℕ} 0 1 = cc in omega arith)
 
-    pub aimed : (a target : ℕ) → m ≡ field.Is a target → RunsTarget s at a target t bases loops is progress list flags r list′ flags′ → Runs
-    unfolding RunsTarget
-    aimed a target x f =
-        by-statement λ a1 target1 source fs e next d i st bs h.
-        let v : index (length (t .arrays)) s (at + 1) ≡ got a target = field-got says x in
-        let y : a1 ≡ a = cc in
-        let w : target1 ≡ target = cc in
-        let st1 : Stated s target source t loops is a fs e next = subst (λ (a : ℕ). Stated s target source t loops is a fs e next) y (subst (λ (q : ℕ). Stated s q source t loops is a1 fs e next) w st) in
-        subst (λ (a : ℕ). Walked t next (update t at (take loops is) a fs e d) r list′ flags′) (sym y) (f source fs e next d st1 bs h)
+    module _ (a target : ℕ) (x : m ≡ field.Is a target) where
+      by-array : ((source : ℕ) (fs : List Form) (e : Expr) (next : ℕ) (d : Done) → Stated s target source t loops is a fs e next → Based t bases → Holds t d progress list flags
+          → Walked t next (update t at (take loops is) a fs e d) r list′ flags′) → Runs
+      by-array f =
+          by-statement λ a1 target1 source fs e next d i st bs h.
+          let v : index (length (t .arrays)) s (at + 1) ≡ got a target = field-got says x in
+          let y : a1 ≡ a = cc in
+          let w : target1 ≡ target = cc in
+          let st1 : Stated s target source t loops is a fs e next = subst (λ (a : ℕ). Stated s target source t loops is a fs e next) y (subst (λ (q : ℕ). Stated s q source t loops is a1 fs e next) w st) in
+          subst (λ (a : ℕ). Walked t next (update t at (take loops is) a fs e d) r list′ flags′) (sym y) (f source fs e next d st1 bs h)
+
+      module _ (b : Bool) (tells : FewNodes s target t loops a (progress .nodes) b) where
+        told : (fs : List Form) (source : ℕ) (e : Expr) (next : ℕ) → Stated s target source t loops is a fs e next → b ≡ leb (progress .nodes + count e) 8192
+        unfolding FewNodes
+        told fs source e next st = tells fs source e next (st .target) (st .behind)
+
+        pub asked-20 : b ≡ false → progress .updates ≤ 2047 → r ≡ walk.No 20 at → Runs
+        unfolding update
+        asked-20 z few q =
+            by-array λ source fs e next d st bs h.
+            let v = leb-false (progress .nodes + count e) 8192 (sym (told fs source e next st) ∙ z) in
+            let k = h .updates in
+            let l = h .count in
+            rw (q, le-leb (length (d .updates) + 1) 2048 (omega arith), lt-leb (d .nodes + count e) 8192 (omega arith)) (refl, refl)
+
+        pub updates-it : b ≡ true → RunsUpdate s at a target t bases loops is progress list flags r list′ flags′ → Runs
+        unfolding RunsUpdate
+        updates-it z u =
+            by-array λ source fs e next d st bs h. u fs source e next d st (leb-true (progress .nodes + count e) 8192 (sym (told fs source e next st) ∙ z)) bs h
+
+pub within-is : (to room : ℕ) (r : Target) (c at end : ℕ) → Within to room r → r ≡ target.Is c at end → (to + 3 ≤ end) × (end ≤ room)
+within-is to room r c at end h e = subst (λ (r : Target). Within to room r) e h
+
+-- a third of a number, three times
+pub thirds-fit : (n : ℕ) → 3 * (n / 3) ≤ n
+thirds-fit n = omega arith

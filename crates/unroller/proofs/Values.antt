@@ -1,6 +1,6 @@
 -- Forms worked out over arrays of eight numbers have the values that the definition gives them.
 use mathlib.Core.Path.{_≡_, refl, sym, ap, ap₂, _∙_, subst}
-use Prim.Native.Nat.{ℕ, zero, suc, _+_, _-_, _≤_, _<_, min}
+use Prim.Native.Nat.{ℕ, zero, suc, _+_, _-_, _*_, _≤_, _<_, min}
 use native.Mathlib.Omega.{arith}
 use mathlib.Core.List.{List, [], _∷_, _++_}
 use mathlib.Core.Bool.{Bool, true, false, _&&_, false≢true}
@@ -9,7 +9,7 @@ use lib.Seq.{take-suc}
 use lib.Dec.{leb}
 use lib.IntN.{ℤ, pos, negsuc, _+ℤ_, _*ℤ_, +ℤ-assoc, +ℤ-idl, +ℤ-idr}
 use lib.Signed.{leZ, ltZ}
-use mir.Syntax.{w64}
+use mir.Syntax.{w8, w16, w64}
 use mir.Val.{toZ, ofZ, SFits}
 use mir.Facts.{toZ-ofZ}
 use borrow.Author.Tests.{le-leb, lt-leb, ltb-true, ltb-false}
@@ -18,10 +18,12 @@ use Rattle.reader.specs.Field.{Outcome, got, no}
 use Rattle.reader.specs.Syntax.{Form}
 use Rattle.reader.specs.Grammar.{form}
 use Rattle.reader.specs.Answers.{placed}
-use Rattle.reader.specs.Entries.{formStep, FormIs, formSays, coefficientsIn}
+use Rattle.reader.specs.Entries.{signeds, formStep, FormIs, formSays, coefficientsIn}
 use Rattle.reader.specs.declared.fields.Place.{Place}
 use Rattle.reader.specs.declared.fields.Place.the-variants.{Next, Not}
 use Rattle.reader.specs.declared.forms.FormRead.{FormRead}
+use Rattle.reader.proofs.Affine.{length-signeds, form-all, form-cut, form-short}
+use Rattle.reader.proofs.Numbers.{by-order}
 use Rattle.unroller.specs.Run.{Ran, ok, stop, products, valueAt, fits32, worked}
 use Rattle.unroller.specs.Forms.{formSum, ValueIs, Values}
 use Rattle.unroller.specs.declared.forms.Valued.{Valued}
@@ -128,3 +130,62 @@ module _ (v : ℤ) (f : SFits w64 v) where
       go : (v : ℤ) → ltZ v (negsuc 2147483647) ≡ false → ltZ (pos 2147483647) v ≡ false → fits32 v ≡ true
       go (pos n) e g = let h = ltb-false 2147483647 n g in le-leb n 2147483647 h
       go (negsuc n) e g = let h = ltb-false 2147483647 n e in rw (le-leb n 2147483647 h)
+
+-- ---- forms worked out from the bytes
+pub getD-signeds : (n : ℕ) (s : List ℕ) (at k : ℕ) → k < n → getD (signeds n s at) k (pos 0) ≡ toZ w8 (getD s (at + k) 0)
+unfolding signeds
+getD-signeds zero s at k h = absurd (omega arith)
+getD-signeds (suc n) s at zero h = let e : at + 0 ≡ at = omega arith in rw e
+getD-signeds (suc n) s at (suc k) h = let e : at + 1 + k ≡ at + suc k = omega arith in getD-signeds n s (at + 1) k (omega arith) ∙ ap (λ (j : ℕ). toZ w8 (getD s j 0)) e
+
+take-all : (n : ℕ) (l : List ℤ) → length l ≡ n → take n l ≡ l
+take-all zero [] e = refl
+take-all zero (x ∷ l) e = absurd (omega arith)
+take-all (suc n) [] e = absurd (omega arith)
+take-all (suc n) (x ∷ l) e = ap (λ (m : List ℤ). x ∷ m) (take-all n l (omega arith))
+
+module _ (s : List ℕ) (at loops : ℕ) (is : List ℤ) where
+  pub bytes-deep : (k : ℕ) → 8 < loops → Values s at loops is (No k)
+  unfolding Values
+  bytes-deep k h f next p q l i = absurd (omega arith)
+
+  pub bytes-short : (k : ℕ) → length s < at + (2 + loops) → Values s at loops is (No k)
+  unfolding Values
+  bytes-short k h f next p q l i =
+      by-order (at + 2) (length s)
+      (λ w. absurd (no-form (form-cut loops s at w (omega arith)) q))
+      (λ w. absurd (no-form (form-short loops s at (omega arith)) q))
+    where
+      no-form : {k p : ℕ} → form loops s at ≡ no k p → form loops s at ≡ got f next → ⊥
+      no-form e g = let z : _≡_ {A = ℕ} 0 1 = cc in omega arith
+
+  module _ (h : at + (2 + loops) ≤ length s) (c v : ℤ) (x : c ≡ toZ w16 (getD s at 0 + 256 * getD s (at + 1) 0)) (w : v ≡ formSum c (signeds loops s (at + 2)) is loops) where
+    record Made (f : Form) (next : ℕ) : Type 0 where
+      place : at + 2 + loops ≡ next
+      value : v ≡ valueAt f (take loops is)
+
+    made : (f : Form) (next : ℕ) → form loops s at ≡ got f next → loops ≤ 8 → length is ≡ 8 → Made f next
+    made f next q l i =
+        let g = form-all loops s at (omega arith) in
+        let y : _≡_ {A = Form} (record { constant = toZ w16 (getD s at 0 + 256 * getD s (at + 1) 0); coefficients = signeds loops s (at + 2) }) f = cc in
+        let n = length-signeds loops s (at + 2) in
+        record {
+          place = cc;
+          value = w ∙ sum-products c (signeds loops s (at + 2)) is loops (omega arith) (omega arith)
+              ∙ ap₂ (λ (z : ℤ) (l : List ℤ). z +ℤ products l (take loops is)) x (take-all loops (signeds loops s (at + 2)) n)
+              ∙ ap (λ (f : Form). valueAt f (take loops is)) y;
+        }
+
+    pub bytes-fit : SFits w64 v → fits32 v ≡ true → Values s at loops is (Is (toZ w64 (ofZ w64 v)) (at + 2 + loops))
+    unfolding Values worked
+    bytes-fit b t f next p q l i =
+        let g = made f next q l i in
+        let y : fits32 (valueAt f (take loops is)) ≡ true = subst (λ (v : ℤ). fits32 v ≡ true) (g .value) t in
+        rw (toZ-ofZ {w = w64} {z = v} b, y) (g .value, g .place)
+
+    pub bytes-wide : fits32 v ≡ false → Values s at loops is (No 21)
+    unfolding Values worked
+    bytes-wide t f next p q l i =
+        let g = made f next q l i in
+        let y : fits32 (valueAt f (take loops is)) ≡ false = subst (λ (v : ℤ). fits32 v ≡ false) (g .value) t in
+        rw y refl

@@ -16,8 +16,8 @@ use Rattle.reader.specs.Entries.{itemsStep}
 use Rattle.reader.specs.declared.fields.Place.{Place}
 use Rattle.reader.specs.declared.fields.Place.the-variants as place
 use Rattle.reader.proofs.Forward.{Past, held-got, items-of-held}
+use Rattle.unroller.specs.Walk.{Progress, on}
 use Rattle.unroller.specs.WalkItems.{Passes}
-use Rattle.unroller.specs.declared.walk.Progress.{Progress}
 use Rattle.unroller.specs.declared.walk.Walk.{Walk}
 use Rattle.unroller.specs.declared.walk.Walk.the-variants as walk
 
@@ -32,12 +32,12 @@ module _ (s : List ℕ) (at : ℕ) (t : Tables) (left loops : ℕ) (p : Progress
       let q : itemsStep t left loops s at ≡ got js next = rw (le-leb left 8 h, le-leb loops 8 k) e in
       says ∙ ap (λ (m : Outcome Items). ended m) q
 
-  pub passes-on : (to : ℕ) → r₀ ≡ place.Next to → Passes s at t left loops p (walk.On to p)
+  pub passes-on : (to : ℕ) → r₀ ≡ place.Next to → Passes s at t left loops p (on to p)
   unfolding Passes
   passes-on to case js next e h k =
       let g : _≡_ {A = Outcome ℕ} (got 0 to) (got 0 next) = sym (ap placeSays case) ∙ told js next e h k in
       let x : to ≡ next = cc in
-      ap (λ (n : ℕ). walk.On n p) x
+      ap (λ (n : ℕ). on n p) x
 
   pub passes-not : (k q : ℕ) → r₀ ≡ place.Not k q → Passes s at t left loops p (walk.No k q)
   unfolding Passes

@@ -22,9 +22,8 @@ use Rattle.reader.proofs.Binds.{read-by}
 use Rattle.reader.proofs.Bytes.{byte-is, byte-not}
 use Rattle.unroller.specs.Run.{Ran, ok, stop, _>>=_, ask, valueAt, fits32, worked, fits16, Done, goesOn, indices, rounds, run, runs}
 use Rattle.unroller.specs.Forms.{ValueIs, Values}
-use Rattle.unroller.specs.Walk.{Holds, Walked, Based, RunsStatement, RunsItem, RunsItems}
+use Rattle.unroller.specs.Walk.{Progress, on, Holds, Walked, Based, RunsStatement, RunsItem, RunsItems}
 use Rattle.unroller.specs.WalkItems.{Ends, within16, ranged, round, RangeIs, Steps, Ranges, Moves, Passes, RunsNested, RunsRound, RunsRounds}
-use Rattle.unroller.specs.declared.walk.Progress.{Progress}
 use Rattle.unroller.specs.declared.walk.Walk.{Walk}
 use Rattle.unroller.specs.declared.walk.Walk.the-variants as walk
 use Rattle.unroller.specs.declared.forms.Valued.{Valued}
@@ -66,7 +65,7 @@ module _ (t : Tables) where
   walked-stop (ok d) g mid next k q l f l′ f′ w = absurd w
   walked-stop (stop a b) g mid next k q l f l′ f′ w = w
 
-  walked-step : (m : Ran Done) (g : Done → Ran Done) (mid next at : ℕ) (p : Progress) (r : Walk) (l f l′ f′ : List ℕ) → Walked t mid m (walk.On at p) l f
+  walked-step : (m : Ran Done) (g : Done → Ran Done) (mid next at : ℕ) (p : Progress) (r : Walk) (l f l′ f′ : List ℕ) → Walked t mid m (on at p) l f
       → ((d : Done) → at ≡ mid → Holds t d p l f → Walked t next (g d) r l′ f′) → Walked t next (m >>= g) r l′ f′
   walked-step (ok d) g mid next at p r l f l′ f′ w k = k d (w .0) (w .1)
   walked-step (stop a b) g mid next at p r l f l′ f′ w k = absurd w
@@ -137,15 +136,15 @@ module _ (s : List ℕ) (t : Tables) (bases : List ℕ) (left loops : ℕ) (is :
   unfolding RunsItems one
   items-out r l′ f′ h js next most d e _ _ _ _ = absurd (let k = items-in one s at most e in omega arith)
 
-  pub items-end : getD s at 0 ≡ 0 → RunsItems s at t bases left loops is p l f (walk.On (at + 1) p) l f
+  pub items-end : getD s at 0 ≡ 0 → RunsItems s at t bases left loops is p l f (on (at + 1) p) l f
   unfolding RunsItems one runs itemOf
   items-end z js next most d e _ _ _ h = items-by one s at most e (λ _ x y. rw x (sym y, h)) (λ less mid i is e1 e2 x. absurd (no-item mid i e1))
     where
       no-item : (mid : ℕ) (i : Item) → one (getD s at 0) at s (at + 1) ≡ got i mid → ⊥
       no-item mid i e = refused (rw z at e)
 
-  module _ (r₀ : Walk) (to : ℕ) (p′ : Progress) (l′ f′ : List ℕ) (case : r₀ ≡ walk.On to p′) (w₀ : RunsItem s at (getD s at 0) t bases left loops is p l f r₀ l′ f′) where
-    w : RunsItem s at (getD s at 0) t bases left loops is p l f (walk.On to p′) l′ f′
+  module _ (r₀ : Walk) (to : ℕ) (p′ : Progress) (l′ f′ : List ℕ) (case : r₀ ≡ on to p′) (w₀ : RunsItem s at (getD s at 0) t bases left loops is p l f r₀ l′ f′) where
+    w : RunsItem s at (getD s at 0) t bases left loops is p l f (on to p′) l′ f′
     w = subst (λ (r : Walk). RunsItem s at (getD s at 0) t bases left loops is p l f r l′ f′) case w₀
 
     pub items-step : (nz : getD s at 0 ≡ 0 → ⊥) (r : Walk) (l″ f″ : List ℕ) → RunsItems s to t bases left loops is p′ l′ f′ r l″ f″ → RunsItems s at t bases left loops is p l f r l″ f″
@@ -312,7 +311,7 @@ module _ (s : List ℕ) (at from : ℕ) (t : Tables) (bases : List ℕ) (left lo
   each js i d = runs js t (take loops is ++ (i ∷ [])) d
 
   module _ (step last : ℤ) (most : ℕ) (index : ℤ) (to : ℕ) (p : Progress) (l f : List ℕ) where
-    pub rounds-found : goesOn step last index ≡ false → 0 < to → RunsRounds s at from t bases left loops is step last most index to p l f (walk.On to p) l f
+    pub rounds-found : goesOn step last index ≡ false → 0 < to → RunsRounds s at from t bases left loops is step last most index to p l f (on to p) l f
     unfolding RunsRounds rounds
     rounds-found g k js next d e b8 l8 found based h = rw (indices-none most step last index g) (found k, h)
 
@@ -331,7 +330,7 @@ module _ (s : List ℕ) (at from : ℕ) (t : Tables) (bases : List ℕ) (left lo
           (walked-stop t (round at (each js i) d) (rounds rest at (each js)) next next k q l′ f′ l″ f″
           (subst (λ (r : Walk). Walked t next (round at (each js i) d) r l′ f′) case (w js next d e b8 l8 based h)))
 
-    pub rounds-step : (less : ℕ) (i after : ℤ) → indices most step last index ≡ i ∷ indices less step last after → (r₀ : Walk) (to′ : ℕ) (p′ : Progress) (l′ f′ : List ℕ) → r₀ ≡ walk.On to′ p′
+    pub rounds-step : (less : ℕ) (i after : ℤ) → indices most step last index ≡ i ∷ indices less step last after → (r₀ : Walk) (to′ : ℕ) (p′ : Progress) (l′ f′ : List ℕ) → r₀ ≡ on to′ p′
         → RunsRound s at from t bases left loops is i p l f r₀ l′ f′ → (r : Walk) (l″ f″ : List ℕ)
         → RunsRounds s at from t bases left loops is step last less after to′ p′ l′ f′ r l″ f″ → RunsRounds s at from t bases left loops is step last most index to p l f r l″ f″
     unfolding RunsRounds RunsRound each
@@ -368,3 +367,9 @@ module _ (s : List ℕ) (at from : ℕ) (t : Tables) (bases : List ℕ) (left lo
           flags-long = h .flags-long;
           marked = h .marked;
         }))
+
+    -- a round of no items
+    pub round-empty : getD s from 0 ≡ 0 → p .rounds < 65536 → RunsRound s at from t bases left loops is index p l f (on (from + 1) (record { rounds = p .rounds + 1; nodes = p .nodes; updates = p .updates })) l f
+    round-empty z k =
+        round-runs (record { rounds = p .rounds + 1; nodes = p .nodes; updates = p .updates }) (on (from + 1) (record { rounds = p .rounds + 1; nodes = p .nodes; updates = p .updates })) l f k refl refl refl
+        (items-end s t bases left (loops + 1) (set is loops index) from (record { rounds = p .rounds + 1; nodes = p .nodes; updates = p .updates }) l f z)

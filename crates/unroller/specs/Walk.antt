@@ -16,9 +16,21 @@ use Rattle.unroller.specs.Run.{Ran, ok, stop, Done, run, runs}
 use Rattle.unroller.specs.Allowed.{allowedTables}
 use Rattle.unroller.specs.Layout.{layout}
 use Rattle.unroller.specs.Stands.{basesOf}
-use Rattle.unroller.specs.declared.walk.Progress.{Progress}
 use Rattle.unroller.specs.declared.walk.Walk.{Walk}
 use Rattle.unroller.specs.declared.walk.Walk.the-variants.{On, No}
+
+-- the counts that a walk keeps
+pub record Progress : Type 0 where
+  pub rounds : ℕ
+  pub nodes : ℕ
+  pub updates : ℕ
+
+abbrev pub progress : ℕ → ℕ → ℕ → Progress
+progress r n u = record { rounds = r; nodes = n; updates = u }
+
+-- the answer at a place with these counts
+abbrev pub on : ℕ → Progress → Walk
+on at p = On at (p .rounds) (p .nodes) (p .updates)
 
 -- what the run has done so far, as the code keeps it: counts, the list laid out in its slice, and a flag for each cell written
 pub record Holds (t : Tables) (d : Done) (p : Progress) (list flags : List ℕ) : Type 0 where
@@ -37,9 +49,9 @@ pub record Holds (t : Tables) (d : Done) (p : Progress) (list flags : List ℕ) 
 
 -- what a walk answers that stands for this run, and ends before `next`
 abbrev pub Walked : Tables → ℕ → Ran Done → Walk → List ℕ → List ℕ → Type 0
-Walked t next (ok d) (On at p) list flags = (at ≡ next) × Holds t d p list flags
+Walked t next (ok d) (On at r n u) list flags = (at ≡ next) × Holds t d (progress r n u) list flags
 Walked t next (ok d) (No question place) list flags = ⊥
-Walked t next (stop k q) (On at p) list flags = ⊥
+Walked t next (stop k q) (On at r n u) list flags = ⊥
 Walked t next (stop k q) (No question place) list flags = (question ≡ k) × (place ≡ q)
 
 -- the bases kept beside the tables are theirs

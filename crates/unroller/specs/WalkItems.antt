@@ -11,10 +11,8 @@ use Rattle.reader.specs.Field.{got}
 use Rattle.reader.specs.Syntax.{Form, Item, Items}
 use Rattle.reader.specs.Grammar.{form, step, nested, body}
 use Rattle.unroller.specs.Run.{Ran, ok, stop, _>>=_, ask, worked, fits16, Done, indices, rounds, run, runs}
-use Rattle.unroller.specs.Walk.{Holds, Walked, Based}
-use Rattle.unroller.specs.declared.walk.Progress.{Progress}
+use Rattle.unroller.specs.Walk.{Progress, on, Holds, Walked, Based}
 use Rattle.unroller.specs.declared.walk.Walk.{Walk}
-use Rattle.unroller.specs.declared.walk.Walk.the-variants as walk
 use Rattle.unroller.specs.declared.items.Range.{Range}
 use Rattle.unroller.specs.declared.items.Range.the-variants.{Over, No}
 
@@ -66,7 +64,7 @@ Moves (No k) = Unit {0}
 
 -- The items from `at` on are passed over, and nothing has changed.
 unfoldable pub Passes : List ℕ → ℕ → Tables → ℕ → ℕ → Progress → Walk → Type 0
-Passes s at t left loops p r = (js : Items) (next : ℕ) → body t (length s) left loops s at ≡ got js next → left ≤ 8 → loops ≤ 8 → r ≡ walk.On next p
+Passes s at t left loops p r = (js : Items) (next : ℕ) → body t (length s) left loops s at ≡ got js next → left ≤ 8 → loops ≤ 8 → r ≡ on next p
 
 -- The loop or guard whose code stands at `at`.
 unfoldable pub RunsNested : List ℕ → ℕ → ℕ → Tables → List ℕ → ℕ → ℕ → List ℤ → Progress → List ℕ → List ℕ → Walk → List ℕ → List ℕ → Type 0

@@ -7,7 +7,6 @@ ghost use Rattle.unroller.specs.UnrollAnswers.{unrolledSays, Unrolls};
 use crate::header::clear;
 use crate::header::header;
 use crate::items::items;
-use crate::walk::Progress;
 use crate::walk::Walk;
 use reader::Verdict;
 use reader::fields::Place;
@@ -36,11 +35,6 @@ fn run(program: &[u8], list: &mut [u32]) -> Unrolled
             header(tables, list);
             let numbers = flat(tables);
             let mut flags = [0u8; 2048];
-            let none = Progress {
-                rounds: 0,
-                nodes: 0,
-                updates: 0,
-            };
             match items(
                 program,
                 first,
@@ -48,7 +42,9 @@ fn run(program: &[u8], list: &mut [u32]) -> Unrolled
                 8,
                 0,
                 [0i16; 8],
-                none,
+                0,
+                0,
+                0,
                 &mut flags,
                 list,
             ) {
@@ -56,7 +52,7 @@ fn run(program: &[u8], list: &mut [u32]) -> Unrolled
                     clear(list);
                     Unrolled::Refused(number, place)
                 }
-                Walk::On(_, done) => Unrolled::Updates(done.updates),
+                Walk::On(_, _, _, updates) => Unrolled::Updates(updates),
             }
         }
     }

@@ -1,10 +1,16 @@
 // Affine forms in signed arithmetic. Coefficients and index values are arrays of eight numbers by value; 64 bits hold every sum.
 ghost use mathlib.Core.Path.{_≡_};
-ghost use Prim.Native.Nat.{_≤_, _^_, min};
+ghost use Prim.Native.Nat.{_+_, _≤_, _^_, min};
+ghost use lib.ListN.{length};
 ghost use lib.IntN.{_+ℤ_, _*ℤ_, natAbs};
+ghost use Rattle.reader.specs.Entries.{signeds};
 ghost use Rattle.unroller.specs.Run.{goesOn};
 ghost use Rattle.unroller.specs.Forms.{formSum, Values};
 use reader::fields::Place;
+use reader::fields::has;
+use reader::fields::i8_of;
+use reader::fields::i16_of;
+use reader::fields::pair;
 
 // One more product. The bound is far above what eight products reach.
 fn form_step(sum: i64, coefficient: i8, index: i16) -> i64
@@ -72,6 +78,42 @@ pub(crate) fn value_at(program: &[u8], at: usize, loops: usize, indices: [i16; 8
             Valued::Is(v, next)
         }
     }
+}
+
+// A form's constant and its products; the coefficients stand at `at`.
+fn sum_at(s: &[u8], at: usize, constant: i16, indices: [i16; 8], loops: usize) -> i64
+    requires { ⌜ (loops ≤ 8) × (at + loops ≤ length (now s)) ⌝ }
+    ensures { λ r. ⌜ r ≡ formSum constant (signeds loops (now (s .entry)) at) indices loops ⌝ }
+{
+    let mut sum = wide(constant);
+    let mut k: usize = 0;
+    while k < loops {
+        sum = form_step(sum, i8_of(s[at + k]), indices[k]);
+        k += 1;
+    }
+    sum
+}
+
+// The same as `value_at`, with the coefficients taken from the bytes one by one: most of a run's time goes into the subscripts, and
+// an array of coefficients, filled and handed on, costs more than their products.
+pub(crate) fn value_of(program: &[u8], at: usize, loops: usize, indices: [i16; 8]) -> Valued
+    ensures { λ r. ⌜ Values (now (program .entry)) at loops indices r ⌝ }
+{
+    if 8 < loops {
+        return Valued::No(12);
+    }
+    if !has(program, at, 2 + loops) {
+        return Valued::No(3);
+    }
+    let constant = i16_of(pair(program[at], program[at + 1]));
+    let v = sum_at(program, at + 2, constant, indices, loops);
+    if v < -2147483648 {
+        return Valued::No(21);
+    }
+    if v > 2147483647 {
+        return Valued::No(21);
+    }
+    Valued::Is(v, at + 2 + loops)
 }
 
 // Whether a loop with this step goes on at this index. The index is wider than 16 bits, so that a step past either end is seen.

@@ -6,13 +6,12 @@ ghost use lib.ListN.{length};
 ghost use lib.IntN.{pos};
 ghost use Rattle.reader.specs.Entries.{viewed, tablesIn};
 ghost use Rattle.unroller.specs.Run.{fits16};
-ghost use Rattle.unroller.specs.Walk.{RunsItem, RunsItems};
+ghost use Rattle.unroller.specs.Walk.{progress, RunsItem, RunsItems};
 ghost use Rattle.unroller.specs.WalkItems.{Steps, Ranges, Moves, Passes, RunsNested, RunsRound, RunsRounds};
 use crate::forms::Valued;
 use crate::forms::goes_on;
 use crate::forms::value_at;
 use crate::statement::statement;
-use crate::walk::Progress;
 use crate::walk::Walk;
 use reader::fields::Place;
 use reader::fields::Signed;
@@ -74,13 +73,15 @@ fn passed(
     tables: &[usize; 115],
     left: usize,
     loops: usize,
-    progress: Progress,
+    made: usize,
+    nodes: usize,
+    updates: usize,
 ) -> Walk
-    ensures { λ r. ⌜ Passes (now (program .entry)) at (tablesIn (now (tables .entry))) left loops progress r ⌝ }
+    ensures { λ r. ⌜ Passes (now (program .entry)) at (tablesIn (now (tables .entry))) left loops (progress made nodes updates) r ⌝ }
 {
     match items_end(program, at, tables, left, loops) {
         Place::Not(number, place) => Walk::No(number, place),
-        Place::Next(next) => Walk::On(next, progress),
+        Place::Next(next) => Walk::On(next, made, nodes, updates),
     }
 }
 
@@ -92,19 +93,23 @@ pub(crate) fn items(
     left: usize,
     loops: usize,
     indices: [i16; 8],
-    progress: Progress,
+    made: usize,
+    nodes: usize,
+    updates: usize,
     flags: &mut [u8; 2048],
     list: &mut [u32],
 ) -> Walk
     requires { ⌜ loops + left ≤ 8 ⌝ }
-    ensures { λ r. ⌜ RunsItems (now (program .entry)) start (tablesIn (now (tables .entry))) (viewed (now (tables .entry)) .bases) left loops indices progress (now (list .entry)) (now (flags .entry)) r (now (list .exit)) (now (flags .exit)) ⌝ }
+    ensures { λ r. ⌜ RunsItems (now (program .entry)) start (tablesIn (now (tables .entry))) (viewed (now (tables .entry)) .bases) left loops indices (progress made nodes updates) (now (list .entry)) (now (flags .entry)) r (now (list .exit)) (now (flags .exit)) ⌝ }
 {
     let mut place = start;
-    let mut done = progress;
+    let mut m = made;
+    let mut n = nodes;
+    let mut u = updates;
     while place < program.len() {
         let code = program[place];
         if code == 0 {
-            return Walk::On(place + 1, done);
+            return Walk::On(place + 1, m, n, u);
         }
         match item(
             program,
@@ -114,20 +119,24 @@ pub(crate) fn items(
             left,
             loops,
             indices,
-            done,
+            m,
+            n,
+            u,
             flags,
             list,
         ) {
             Walk::No(number, at) => {
                 return Walk::No(number, at);
             }
-            Walk::On(next, more) => {
+            Walk::On(next, rounds_then, nodes_then, updates_then) => {
                 // An item takes a byte at least.
                 if next <= place {
                     return Walk::No(3, place);
                 }
                 place = next;
-                done = more;
+                m = rounds_then;
+                n = nodes_then;
+                u = updates_then;
             }
         }
     }
@@ -143,15 +152,28 @@ fn item(
     left: usize,
     loops: usize,
     indices: [i16; 8],
-    progress: Progress,
+    made: usize,
+    nodes: usize,
+    updates: usize,
     flags: &mut [u8; 2048],
     list: &mut [u32],
 ) -> Walk
     requires { ⌜ (loops + left ≤ 8) × (at < length (now program)) ⌝ }
-    ensures { λ r. ⌜ RunsItem (now (program .entry)) at code (tablesIn (now (tables .entry))) (viewed (now (tables .entry)) .bases) left loops indices progress (now (list .entry)) (now (flags .entry)) r (now (list .exit)) (now (flags .exit)) ⌝ }
+    ensures { λ r. ⌜ RunsItem (now (program .entry)) at code (tablesIn (now (tables .entry))) (viewed (now (tables .entry)) .bases) left loops indices (progress made nodes updates) (now (list .entry)) (now (flags .entry)) r (now (list .exit)) (now (flags .exit)) ⌝ }
 {
     match code {
-        1 => statement(program, at, tables, loops, indices, progress, flags, list),
+        1 => statement(
+            program,
+            at,
+            tables,
+            loops,
+            indices,
+            made,
+            nodes,
+            updates,
+            flags,
+            list,
+        ),
         2 => run_loop(
             program,
             at,
@@ -159,7 +181,9 @@ fn item(
             left,
             loops,
             indices,
-            progress,
+            made,
+            nodes,
+            updates,
             flags,
             list,
         ),
@@ -170,7 +194,9 @@ fn item(
             left,
             loops,
             indices,
-            progress,
+            made,
+            nodes,
+            updates,
             flags,
             list,
         ),
@@ -186,12 +212,14 @@ fn run_guard(
     left: usize,
     loops: usize,
     indices: [i16; 8],
-    progress: Progress,
+    made: usize,
+    nodes: usize,
+    updates: usize,
     flags: &mut [u8; 2048],
     list: &mut [u32],
 ) -> Walk
     requires { ⌜ (loops + left ≤ 8) × (at < length (now program)) ⌝ }
-    ensures { λ r. ⌜ RunsNested (now (program .entry)) at 3 (tablesIn (now (tables .entry))) (viewed (now (tables .entry)) .bases) left loops indices progress (now (list .entry)) (now (flags .entry)) r (now (list .exit)) (now (flags .exit)) ⌝ }
+    ensures { λ r. ⌜ RunsNested (now (program .entry)) at 3 (tablesIn (now (tables .entry))) (viewed (now (tables .entry)) .bases) left loops indices (progress made nodes updates) (now (list .entry)) (now (flags .entry)) r (now (list .exit)) (now (flags .exit)) ⌝ }
 {
     if left == 0 {
         return Walk::No(12, at);
@@ -200,7 +228,7 @@ fn run_guard(
         Valued::No(number) => Walk::No(number, at),
         Valued::Is(value, body) => {
             if value < 0 {
-                return passed(program, body, tables, left - 1, loops, progress);
+                return passed(program, body, tables, left - 1, loops, made, nodes, updates);
             }
             items(
                 program,
@@ -209,7 +237,9 @@ fn run_guard(
                 left - 1,
                 loops,
                 indices,
-                progress,
+                made,
+                nodes,
+                updates,
                 flags,
                 list,
             )
@@ -225,12 +255,14 @@ fn run_loop(
     left: usize,
     loops: usize,
     indices: [i16; 8],
-    progress: Progress,
+    made: usize,
+    nodes: usize,
+    updates: usize,
     flags: &mut [u8; 2048],
     list: &mut [u32],
 ) -> Walk
     requires { ⌜ (loops + left ≤ 8) × (at < length (now program)) ⌝ }
-    ensures { λ r. ⌜ RunsNested (now (program .entry)) at 2 (tablesIn (now (tables .entry))) (viewed (now (tables .entry)) .bases) left loops indices progress (now (list .entry)) (now (flags .entry)) r (now (list .exit)) (now (flags .exit)) ⌝ }
+    ensures { λ r. ⌜ RunsNested (now (program .entry)) at 2 (tablesIn (now (tables .entry))) (viewed (now (tables .entry)) .bases) left loops indices (progress made nodes updates) (now (list .entry)) (now (flags .entry)) r (now (list .exit)) (now (flags .exit)) ⌝ }
 {
     if left == 0 {
         return Walk::No(12, at);
@@ -248,7 +280,9 @@ fn run_loop(
             first,
             last,
             step,
-            progress,
+            made,
+            nodes,
+            updates,
             flags,
             list,
         ),
@@ -268,18 +302,22 @@ fn rounds(
     first: i16,
     last: i16,
     step: i16,
-    progress: Progress,
+    made: usize,
+    nodes: usize,
+    updates: usize,
     flags: &mut [u8; 2048],
     list: &mut [u32],
 ) -> Walk
     requires { ⌜ (loops + left < 8) × (step ≡ pos 0 → ⊥) ⌝ }
-    ensures { λ r. ⌜ RunsRounds (now (program .entry)) at body (tablesIn (now (tables .entry))) (viewed (now (tables .entry)) .bases) left loops indices step last 65536 first 0 progress (now (list .entry)) (now (flags .entry)) r (now (list .exit)) (now (flags .exit)) ⌝ }
+    ensures { λ r. ⌜ RunsRounds (now (program .entry)) at body (tablesIn (now (tables .entry))) (viewed (now (tables .entry)) .bases) left loops indices step last 65536 first 0 (progress made nodes updates) (now (list .entry)) (now (flags .entry)) r (now (list .exit)) (now (flags .exit)) ⌝ }
 {
     let end = last as i32;
     let by = step as i32;
     let mut index = first as i32;
     let mut past: usize = 0;
-    let mut done = progress;
+    let mut m = made;
+    let mut n = nodes;
+    let mut u = updates;
     while goes_on(index, end, step) {
         match round(
             program,
@@ -290,24 +328,28 @@ fn rounds(
             loops,
             indices,
             index as i16,
-            done,
+            m,
+            n,
+            u,
             flags,
             list,
         ) {
             Walk::No(number, place) => {
                 return Walk::No(number, place);
             }
-            Walk::On(next, more) => {
+            Walk::On(next, rounds_then, nodes_then, updates_then) => {
                 past = next;
-                done = more;
+                m = rounds_then;
+                n = nodes_then;
+                u = updates_then;
                 index += by;
             }
         }
     }
     if past == 0 {
-        return passed(program, body, tables, left, loops + 1, done);
+        return passed(program, body, tables, left, loops + 1, m, n, u);
     }
-    Walk::On(past, done)
+    Walk::On(past, m, n, u)
 }
 
 // One round, at this index. Before it: are there at most 65,536 with it? 18
@@ -320,24 +362,26 @@ fn round(
     loops: usize,
     indices: [i16; 8],
     index: i16,
-    progress: Progress,
+    made: usize,
+    nodes: usize,
+    updates: usize,
     flags: &mut [u8; 2048],
     list: &mut [u32],
 ) -> Walk
     requires { ⌜ loops + left < 8 ⌝ }
-    ensures { λ r. ⌜ RunsRound (now (program .entry)) at body (tablesIn (now (tables .entry))) (viewed (now (tables .entry)) .bases) left loops indices index progress (now (list .entry)) (now (flags .entry)) r (now (list .exit)) (now (flags .exit)) ⌝ }
+    ensures { λ r. ⌜ RunsRound (now (program .entry)) at body (tablesIn (now (tables .entry))) (viewed (now (tables .entry)) .bases) left loops indices index (progress made nodes updates) (now (list .entry)) (now (flags .entry)) r (now (list .exit)) (now (flags .exit)) ⌝ }
 {
-    let made = progress.rounds;
     if 65536 <= made {
         return Walk::No(18, at);
     }
+    // A round of no items is told from here, without a call.
+    if body < program.len() {
+        if program[body] == 0 {
+            return Walk::On(body + 1, made + 1, nodes, updates);
+        }
+    }
     let mut inner = indices;
     inner[loops] = index;
-    let more = Progress {
-        rounds: made + 1,
-        nodes: progress.nodes,
-        updates: progress.updates,
-    };
     items(
         program,
         body,
@@ -345,7 +389,9 @@ fn round(
         left,
         loops + 1,
         inner,
-        more,
+        made + 1,
+        nodes,
+        updates,
         flags,
         list,
     )

@@ -11,11 +11,10 @@ ghost use mir.Val.{ofZ};
 ghost use Rattle.model.specs.Tables.{arrayAt};
 ghost use Rattle.reader.specs.Entries.{viewed, tablesIn};
 ghost use Rattle.unroller.specs.Run.{fits32};
-ghost use Rattle.unroller.specs.Walk.{RunsStatement};
-ghost use Rattle.unroller.specs.Writes.{InExtent, Below, Subscript, CellsFrom, WritesRead, WritesLiteral, WritesConstant, WritesLeaf, WritesNode, WritesOperator, WritesArgs, spot, mayRead, recordFine, scanned, Marks, WritesUpdate, Sources, RunsUpdate, RunsTarget};
+ghost use Rattle.unroller.specs.Walk.{progress, RunsStatement};
+ghost use Rattle.unroller.specs.Writes.{InExtent, Below, Subscript, CellsFrom, WritesRead, WritesLiteral, WritesConstant, WritesLeaf, WritesOperator, leafRecord, WritesRecord, Roomy, WritesNode, Ends, spot, mayRead, recordFine, scanned, Marks, WritesUpdate, Within, Sources, FewNodes, RunsUpdate};
 use crate::forms::Valued;
-use crate::forms::value_at;
-use crate::walk::Progress;
+use crate::forms::value_of;
 use crate::walk::Walk;
 use reader::expressions::expression_end;
 use reader::expressions::forms_end;
@@ -41,6 +40,18 @@ enum Cell {
 // The place past an expression, and the word past its records; or a question's number.
 enum Wrote {
     To(usize, usize),
+    No(u8),
+}
+
+// The place past a record's bytes, and how many records of arguments follow it; or a question's number.
+enum Record {
+    Of(usize, usize),
+    No(u8),
+}
+
+// The cell of an update's target, the place past its expression, and the word past its records; or a question's number.
+enum Target {
+    Is(usize, usize, usize),
     No(u8),
 }
 
@@ -87,7 +98,7 @@ fn subscript_at(program: &[u8], at: usize, loops: usize, indices: [i16; 8], exte
     ensures says { λ r. ⌜ Subscript (now (program .entry)) at loops indices extent r ⌝ }
     ensures below { λ r. ⌜ Below extent r ⌝ }
 {
-    match value_at(program, at, loops, indices) {
+    match value_of(program, at, loops, indices) {
         Valued::No(number) => Cell::No(number),
         Valued::Is(v, next) => in_extent(v, extent, next),
     }
@@ -168,7 +179,7 @@ fn write_literal(
     requires { ⌜ to + 3 ≤ length (now list) ⌝ }
     ensures { λ r. ⌜ WritesLiteral (now (program .entry)) at loops indices (now (list .entry)) to r (now (list .exit)) ⌝ }
 {
-    match value_at(program, at, loops, indices) {
+    match value_of(program, at, loops, indices) {
         Valued::No(number) => Wrote::No(number),
         Valued::Is(v, next) => {
             put(list, to, 18, bits_of(v), 0);
@@ -212,103 +223,102 @@ fn write_leaf(
     }
 }
 
-// The expression at `at`, in which operators may nest `left` deep, into the list from word `to` on.
-fn write_node(
-    program: &[u8],
-    at: usize,
-    tables: &[usize; 115],
-    loops: usize,
-    indices: [i16; 8],
-    left: usize,
-    list: &mut [u32],
-    to: usize,
-) -> Wrote
-    ensures { λ r. ⌜ WritesNode (now (program .entry)) at (tablesIn (now (tables .entry))) loops indices left (now (list .entry)) to r (now (list .exit)) ⌝ }
-{
-    if list.len() < 3 {
-        return Wrote::No(20);
-    }
-    if list.len() - 3 < to {
-        return Wrote::No(20);
-    }
-    match byte_at(program, at) {
-        Field::Not(number, _) => Wrote::No(number),
-        Field::Is(code, next) => {
-            if code == 0x11 {
-                return write_operator(program, next, tables, loops, indices, left, list, to);
-            }
-            write_leaf(program, code, next, tables, loops, indices, list, to)
-        }
-    }
-}
-
-// What follows an operator's code.
+// What follows an operator's code. No operator has more than four arguments, whatever the tables hold.
 fn write_operator(
     program: &[u8],
     at: usize,
     tables: &[usize; 115],
-    loops: usize,
-    indices: [i16; 8],
-    left: usize,
     list: &mut [u32],
     to: usize,
-) -> Wrote
+) -> Record
     requires { ⌜ to + 3 ≤ length (now list) ⌝ }
-    ensures { λ r. ⌜ WritesOperator (now (program .entry)) at (tablesIn (now (tables .entry))) loops indices left (now (list .entry)) to r (now (list .exit)) ⌝ }
+    ensures says { λ r. ⌜ WritesOperator (now (program .entry)) at (tablesIn (now (tables .entry))) (now (list .entry)) to r (now (list .exit)) ⌝ }
+    ensures room { λ r. ⌜ Roomy to (length (now (list .entry))) r ⌝ }
 {
-    if left == 0 {
-        return Wrote::No(12);
-    }
     match index_at(program, at, operator_count(tables)) {
-        Field::Not(number, _) => Wrote::No(number),
+        Field::Not(number, _) => Record::No(number),
         Field::Is(operator, next) => {
-            put(list, to, 17, word(operator), 0);
             let n = arity_of(tables, operator);
-            write_args(
-                program,
-                next,
-                tables,
-                loops,
-                indices,
-                left - 1,
-                n,
-                list,
-                to + 3,
-            )
+            if 4 < n {
+                return Record::No(6);
+            }
+            put(list, to, 17, word(operator), 0);
+            Record::Of(next, n)
         }
     }
 }
 
-// n arguments in a row.
-fn write_args(
+// A read, a literal or a constant is one record, and none follows.
+fn leaf_record(leaf: Wrote) -> Record
+    ensures { λ r. ⌜ r ≡ leafRecord leaf ⌝ }
+{
+    match leaf {
+        Wrote::No(number) => Record::No(number),
+        Wrote::To(next, _) => Record::Of(next, 0),
+    }
+}
+
+// The record of the node at `at`, at word `to`.
+fn write_record(
     program: &[u8],
     at: usize,
     tables: &[usize; 115],
     loops: usize,
     indices: [i16; 8],
-    left: usize,
-    n: usize,
+    list: &mut [u32],
+    to: usize,
+) -> Record
+    ensures says { λ r. ⌜ WritesRecord (now (program .entry)) (tablesIn (now (tables .entry))) loops indices at (now (list .entry)) to r (now (list .exit)) ⌝ }
+    ensures room { λ r. ⌜ Roomy to (length (now (list .entry))) r ⌝ }
+{
+    if list.len() < 3 {
+        return Record::No(20);
+    }
+    if list.len() - 3 < to {
+        return Record::No(20);
+    }
+    match byte_at(program, at) {
+        Field::Not(number, _) => Record::No(number),
+        Field::Is(code, next) => {
+            if code == 0x11 {
+                return write_operator(program, next, tables, list, to);
+            }
+            leaf_record(write_leaf(program, code, next, tables, loops, indices, list, to))
+        }
+    }
+}
+
+// The expression at `at`, into the list from word `to` on. In prefix order the arguments of an operator follow it, so it is enough
+// to count how many nodes are still to come.
+fn write_nodes(
+    program: &[u8],
+    at: usize,
+    tables: &[usize; 115],
+    loops: usize,
+    indices: [i16; 8],
     list: &mut [u32],
     to: usize,
 ) -> Wrote
-    ensures { λ r. ⌜ WritesArgs (now (program .entry)) at (tablesIn (now (tables .entry))) loops indices left n (now (list .entry)) to r (now (list .exit)) ⌝ }
+    requires { ⌜ to ≤ length (now list) ⌝ }
+    ensures says { λ r. ⌜ WritesNode (now (program .entry)) at (tablesIn (now (tables .entry))) loops indices 12 (now (list .entry)) to r (now (list .exit)) ⌝ }
+    ensures ends { λ r. ⌜ Ends to (length (now (list .entry))) r ⌝ }
 {
-    let mut next = at;
+    let mut place = at;
     let mut end = to;
-    let mut more = n;
+    let mut more: usize = 1;
     while 0 < more {
-        match write_node(program, next, tables, loops, indices, left, list, end) {
-            Wrote::No(number) => {
+        match write_record(program, place, tables, loops, indices, list, end) {
+            Record::No(number) => {
                 return Wrote::No(number);
             }
-            Wrote::To(past, last) => {
-                next = past;
-                end = last;
-                more -= 1;
+            Record::Of(next, n) => {
+                place = next;
+                end += 3;
+                more = more - 1 + n;
             }
         }
     }
-    Wrote::To(next, end)
+    Wrote::To(place, end)
 }
 
 // The number of a cell among the cells of all arrays; 2,048 for a cell beyond them.
@@ -389,28 +399,28 @@ fn mark(flags: &mut [u8; 2048], k: usize)
     }
 }
 
-// The record of the target at word `to`, and the expression's behind it: the target's cell and the place past the expression.
+// The record of the target at word `to`, and the expression's behind it.
 fn write_update(
     program: &[u8],
     array: usize,
     at: usize,
-    source: usize,
     tables: &[usize; 115],
     loops: usize,
     indices: [i16; 8],
     list: &mut [u32],
     to: usize,
-) -> Cell
+) -> Target
     requires { ⌜ to + 3 ≤ length (now list) ⌝ }
-    ensures { λ r. ⌜ WritesUpdate (now (program .entry)) array at source (tablesIn (now (tables .entry))) loops indices (now (list .entry)) to r (now (list .exit)) ⌝ }
+    ensures says { λ r. ⌜ WritesUpdate (now (program .entry)) array at (tablesIn (now (tables .entry))) loops indices (now (list .entry)) to r (now (list .exit)) ⌝ }
+    ensures within { λ r. ⌜ Within to (length (now (list .entry))) r ⌝ }
 {
     match cell_at(program, at, tables, loops, indices, array) {
-        Cell::No(number) => Cell::No(number),
-        Cell::Is(cell, _) => {
+        Cell::No(number) => Target::No(number),
+        Cell::Is(cell, source) => {
             put(list, to, 1, word(array), word(cell));
-            match write_node(program, source, tables, loops, indices, 12, list, to + 3) {
-                Wrote::No(number) => Cell::No(number),
-                Wrote::To(next, _) => Cell::Is(cell, next),
+            match write_nodes(program, source, tables, loops, indices, list, to + 3) {
+                Wrote::No(number) => Target::No(number),
+                Wrote::To(next, end) => Target::Is(cell, next, end),
             }
         }
     }
@@ -429,59 +439,6 @@ fn source_at(program: &[u8], at: usize, tables: &[usize; 115], loops: usize, arr
     }
 }
 
-// One update more, with so many nodes.
-fn counted(progress: Progress, nodes: usize) -> Progress
-    requires { ⌜ (progress .updates < 2048) × (progress .nodes + nodes ≤ 8192) ⌝ }
-    ensures { λ r. ⌜ (r .rounds ≡ progress .rounds) × (r .nodes ≡ progress .nodes + nodes) × (r .updates ≡ progress .updates + 1) ⌝ }
-{
-    Progress {
-        rounds: progress.rounds,
-        nodes: progress.nodes + nodes,
-        updates: progress.updates + 1,
-    }
-}
-
-// What is asked and done behind questions 19 and 20 of the statement whose code stands at `at`.
-fn update(
-    program: &[u8],
-    at: usize,
-    array: usize,
-    target: usize,
-    source: usize,
-    nodes: usize,
-    tables: &[usize; 115],
-    loops: usize,
-    indices: [i16; 8],
-    progress: Progress,
-    flags: &mut [u8; 2048],
-    list: &mut [u32],
-) -> Walk
-    requires { ⌜ (progress .updates < 2048) × (progress .nodes + nodes ≤ 8192) × (32768 ≤ length (now list)) ⌝ }
-    ensures { λ r. ⌜ RunsUpdate (now (program .entry)) at array target source nodes (tablesIn (now (tables .entry))) (viewed (now (tables .entry)) .bases) loops indices «progress» (now (list .entry)) (now (flags .entry)) r (now (list .exit)) (now (flags .exit)) ⌝ }
-{
-    let to = 98 + 3 * (progress.updates + progress.nodes);
-    match write_update(
-        program,
-        array,
-        target,
-        source,
-        tables,
-        loops,
-        indices,
-        list,
-        to,
-    ) {
-        Cell::No(number) => Walk::No(number, at),
-        Cell::Is(cell, next) => {
-            if !all_written(list, to + 3, nodes, tables, flags) {
-                return Walk::No(17, at);
-            }
-            mark(flags, spot_of(tables, array, cell));
-            Walk::On(next, counted(progress, nodes))
-        }
-    }
-}
-
 fn too_many(nodes: usize, more: usize) -> bool
     ensures { λ r. ⌜ r ≡ ltb 8192 (nodes + more) ⌝ }
 {
@@ -491,8 +448,29 @@ fn too_many(nodes: usize, more: usize) -> bool
     8192 - nodes < more
 }
 
-// The statement whose target is a cell of `array`, by the subscripts at `target`.
-fn assign(
+// Are there at most 8,192 nodes with those of the expression behind the subscripts at `at`? A node takes a byte at least, so they
+// are counted only where the whole file is too long to tell.
+fn few_nodes(
+    program: &[u8],
+    at: usize,
+    tables: &[usize; 115],
+    loops: usize,
+    array: usize,
+    nodes: usize,
+) -> bool
+    ensures { λ r. ⌜ FewNodes (now (program .entry)) at (tablesIn (now (tables .entry))) loops array nodes r ⌝ }
+{
+    if !too_many(nodes, program.len()) {
+        return true;
+    }
+    match source_at(program, at, tables, loops, array) {
+        Field::Not(_, _) => true,
+        Field::Is(more, _) => !too_many(nodes, more),
+    }
+}
+
+// What is asked and done behind questions 19 and 20 of the statement whose code stands at `at`.
+fn update(
     program: &[u8],
     at: usize,
     array: usize,
@@ -500,33 +478,25 @@ fn assign(
     tables: &[usize; 115],
     loops: usize,
     indices: [i16; 8],
-    progress: Progress,
+    made: usize,
+    nodes: usize,
+    updates: usize,
     flags: &mut [u8; 2048],
     list: &mut [u32],
 ) -> Walk
-    requires { ⌜ (progress .updates < 2048) × (32768 ≤ length (now list)) ⌝ }
-    ensures { λ r. ⌜ RunsTarget (now (program .entry)) at array target (tablesIn (now (tables .entry))) (viewed (now (tables .entry)) .bases) loops indices «progress» (now (list .entry)) (now (flags .entry)) r (now (list .exit)) (now (flags .exit)) ⌝ }
+    requires { ⌜ (updates < 2048) × (nodes ≤ 8192) × (32768 ≤ length (now list)) ⌝ }
+    ensures { λ r. ⌜ RunsUpdate (now (program .entry)) at array target (tablesIn (now (tables .entry))) (viewed (now (tables .entry)) .bases) loops indices (progress made nodes updates) (now (list .entry)) (now (flags .entry)) r (now (list .exit)) (now (flags .exit)) ⌝ }
 {
-    match source_at(program, target, tables, loops, array) {
-        Field::Not(number, _) => Walk::No(number, at),
-        Field::Is(nodes, source) => {
-            if too_many(progress.nodes, nodes) {
-                return Walk::No(20, at);
+    let to = 98 + 3 * (updates + nodes);
+    match write_update(program, array, target, tables, loops, indices, list, to) {
+        Target::No(number) => Walk::No(number, at),
+        Target::Is(cell, next, end) => {
+            let more = (end - (to + 3)) / 3;
+            if !all_written(list, to + 3, more, tables, flags) {
+                return Walk::No(17, at);
             }
-            update(
-                program,
-                at,
-                array,
-                target,
-                source,
-                nodes,
-                tables,
-                loops,
-                indices,
-                progress,
-                flags,
-                list,
-            )
+            mark(flags, spot_of(tables, array, cell));
+            Walk::On(next, made, nodes + more, updates + 1)
         }
     }
 }
@@ -538,35 +508,47 @@ pub(crate) fn statement(
     tables: &[usize; 115],
     loops: usize,
     indices: [i16; 8],
-    progress: Progress,
+    made: usize,
+    nodes: usize,
+    updates: usize,
     flags: &mut [u8; 2048],
     list: &mut [u32],
 ) -> Walk
-    ensures { λ r. ⌜ RunsStatement (now (program .entry)) at (tablesIn (now (tables .entry))) (viewed (now (tables .entry)) .bases) loops indices «progress» (now (list .entry)) (now (flags .entry)) r (now (list .exit)) (now (flags .exit)) ⌝ }
+    ensures { λ r. ⌜ RunsStatement (now (program .entry)) at (tablesIn (now (tables .entry))) (viewed (now (tables .entry)) .bases) loops indices (progress made nodes updates) (now (list .entry)) (now (flags .entry)) r (now (list .exit)) (now (flags .exit)) ⌝ }
 {
-    if 2047 < progress.updates {
+    if 2047 < updates {
         return Walk::No(19, at);
     }
-    // A statement that was read has its code in the program, and a list that was lent is long enough.
+    // A statement that was read has its code in the program, a list that was lent is long enough, and there were 8,192 nodes at most.
     if program.len() <= at {
         return Walk::No(3, at);
     }
     if list.len() < 32768 {
         return Walk::No(25, at);
     }
+    if 8192 < nodes {
+        return Walk::No(20, at);
+    }
     match index_at(program, at + 1, array_count(tables)) {
         Field::Not(number, _) => Walk::No(number, at),
-        Field::Is(array, target) => assign(
-            program,
-            at,
-            array,
-            target,
-            tables,
-            loops,
-            indices,
-            progress,
-            flags,
-            list,
-        ),
+        Field::Is(array, target) => {
+            if !few_nodes(program, target, tables, loops, array, nodes) {
+                return Walk::No(20, at);
+            }
+            update(
+                program,
+                at,
+                array,
+                target,
+                tables,
+                loops,
+                indices,
+                made,
+                nodes,
+                updates,
+                flags,
+                list,
+            )
+        }
     }
 }

@@ -1,14 +1,6 @@
-// What a walk over a program's items keeps and answers.
-
-// How many rounds, nodes and updates there are so far.
-pub(crate) struct Progress {
-    pub rounds: usize,
-    pub nodes: usize,
-    pub updates: usize,
-}
-
-// The place past what was run, with the counts then; or a question's number and place.
+// What a walk over a program's items answers: the place past what was run, with the rounds, nodes and updates there are then; or a
+// question's number and place. The counts go as plain numbers: a struct of them, passed on from call to call, is copied each time.
 pub(crate) enum Walk {
-    On(usize, Progress),
+    On(usize, usize, usize, usize),
     No(u8, usize),
 }
