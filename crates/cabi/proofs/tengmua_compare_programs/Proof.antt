@@ -1,0 +1,38 @@
+use borrow.Author.Needs.{needs}
+use mathlib.Core.Path.{_∙_, ap}
+use Rattle.cabi.specs.Numbers.{numbersOf}
+use Rattle.cabi.proofs.tengmua_compare_programs.Statement.{statement}
+use Rattle.cabi.proofs.tengmua_compare_programs.Tie as tie
+
+compare-programs-masked-requires : tie.Need-compare-programs-masked-requires
+compare-programs-masked-requires c κs = search needs
+
+reply-numbers-requires : tie.Need-reply-numbers-requires
+reply-numbers-requires c κs = search needs
+
+same-length : tie.Need-same-length
+same-length c = search needs
+
+same-length-2 : tie.Need-same-length-2
+same-length-2 c = search needs
+
+same-length-3 : tie.Need-same-length-3
+same-length-3 c = search needs
+
+same-length-4 : tie.Need-same-length-4
+same-length-4 c = search needs
+
+returns : tie.Need-returns
+returns c = (c .reply-numbers .ensures ∙ ap numbersOf (c .before .before .before .before .before .before .before .before .before .compare-programs-masked .ensures .0), c .before .before .before .before .before .before .before .before .before .compare-programs-masked .ensures .1)
+
+pub tengmua-compare-programs-spec : {M : Type 1} → statement M
+tengmua-compare-programs-spec =
+    tie.close
+    (tie.spec
+    compare-programs-masked-requires
+    reply-numbers-requires
+    same-length
+    same-length-2
+    same-length-3
+    same-length-4
+    returns)
