@@ -1,0 +1,151 @@
+//! bench [SECONDS [SEED]]: times of the proved checker and of the separately written one, as tab-separated lines
+//! `workload entry ours theirs ratio` and `growth quantity size ours theirs ratio`, in nanoseconds. SECONDS is the budget for
+//! each line.
+
+use std::hint::black_box;
+use std::time::Duration;
+
+use beside::time::{best, Times};
+use beside::workloads::{all, growths, Pair, Workload};
+use separate::limits::{CELL_WORDS, LIST_WORDS, TERM_WORDS};
+use tengmua::{Reply, Work, ALL};
+
+/// Memory for one checker: both have their own of the same lengths, zeros before the first call and after each.
+struct Memory {
+    left: Vec<u32>,
+    right: Vec<u32>,
+    cells: Vec<u32>,
+    terms: Vec<u32>,
+}
+
+impl Memory {
+    fn new() -> Memory {
+        let [left, right, cells, terms] =
+            [LIST_WORDS, LIST_WORDS, CELL_WORDS, TERM_WORDS].map(|words| vec![0; words]);
+        Memory { left, right, cells, terms }
+    }
+}
+
+/// Keeps the compiler from leaving out a call whose answer nobody wants.
+fn done<T>(answer: T) {
+    black_box(answer);
+}
+
+struct Bench {
+    budget: Duration,
+    ours: Memory,
+    theirs: Memory,
+}
+
+impl Bench {
+    fn programs(&mut self, pairs: &[Pair]) -> Times {
+        let (ours, theirs) = (&mut self.ours, &mut self.theirs);
+        best(
+            self.budget,
+            || {
+                for Pair { left, right } in pairs {
+                    let Memory { left: a, right: b, cells, terms } = ours;
+                    done(tengmua::compare_programs(left, right, ALL, a, b, cells, terms));
+                }
+            },
+            || {
+                for Pair { left, right } in pairs {
+                    let Memory { left: a, right: b, cells, terms } = theirs;
+                    done(separate::compare_programs_masked(left, right, ALL, a, b, cells, terms));
+                }
+            },
+        )
+    }
+
+    fn unroll(&mut self, programs: &[&[u8]]) -> Times {
+        let (ours, theirs) = (&mut self.ours.left, &mut self.theirs.left);
+        let times = best(
+            self.budget,
+            || programs.iter().for_each(|program| done(tengmua::unroll(program, ours))),
+            || programs.iter().for_each(|program| done(separate::unroll(program, theirs))),
+        );
+        assert_eq!(ours, theirs, "the lists are the same");
+        ours.fill(0);
+        theirs.fill(0);
+        times
+    }
+
+    fn check(&mut self, lists: &[Vec<u32>]) -> Times {
+        best(
+            self.budget,
+            || lists.iter().for_each(|list| done(tengmua::check_list(list))),
+            || lists.iter().for_each(|list| done(separate::check_list(list))),
+        )
+    }
+
+    fn lists(&mut self, lists: &[(Vec<u32>, Vec<u32>)]) -> Times {
+        let (ours, theirs) = (&mut self.ours, &mut self.theirs);
+        best(
+            self.budget,
+            || {
+                for (left, right) in lists {
+                    let Memory { cells, terms, .. } = &mut *ours;
+                    done(tengmua::compare_lists(left, right, ALL, cells, terms));
+                }
+            },
+            || {
+                for (left, right) in lists {
+                    let Memory { cells, terms, .. } = &mut *theirs;
+                    done(separate::compare_lists(left, right, ALL, cells, terms));
+                }
+            },
+        )
+    }
+}
+
+fn line(words: &[&str], times: Times) {
+    println!("{}\t{:.0}\t{:.0}\t{:.2}", words.join("\t"), times.ours, times.theirs, times.ratio());
+}
+
+fn list_of(program: &[u8]) -> Option<Vec<u32>> {
+    let mut list = vec![0; LIST_WORDS];
+    separate::unroll(program, &mut list).ok().map(|_| list)
+}
+
+/// The lists of the pairs that are not refused: those that the solvers are asked about too.
+fn lists_of(pairs: &[Pair]) -> Vec<(Vec<u32>, Vec<u32>)> {
+    let mut work = Work::default();
+    let lists = pairs.iter().filter_map(|pair| list_of(&pair.left).zip(list_of(&pair.right)));
+    lists.filter(|(left, right)| !is_refused(work.lists(left, right, ALL))).collect()
+}
+
+fn is_refused(reply: Reply) -> bool {
+    matches!(reply, Reply::Refused(_))
+}
+
+fn table(bench: &mut Bench, Workload { name, pairs }: &Workload) {
+    line(&[name, "compare_programs"], bench.programs(pairs));
+    let programs: Vec<&[u8]> =
+        pairs.iter().flat_map(|pair| [&pair.left[..], &pair.right[..]]).collect();
+    line(&[name, "unroll"], bench.unroll(&programs));
+    let lists = lists_of(pairs);
+    line(&[name, "compare_lists"], bench.lists(&lists));
+    let both: Vec<_> = lists.into_iter().flat_map(|(left, right)| [left, right]).collect();
+    line(&[name, "check_list"], bench.check(&both));
+}
+
+fn number<T: std::str::FromStr>(place: usize, default: T) -> T {
+    match std::env::args().nth(place) {
+        Some(word) => word.parse().unwrap_or_else(|_| panic!("'{word}' is no number")),
+        None => default,
+    }
+}
+
+fn main() {
+    let budget = Duration::from_secs_f64(number(1, 0.3));
+    let mut bench = Bench { budget, ours: Memory::new(), theirs: Memory::new() };
+    for workload in all(number(2, 1)) {
+        table(&mut bench, &workload);
+    }
+    for growth in growths() {
+        for (size, pair) in growth.sizes {
+            let times = bench.programs(&[pair]);
+            line(&["growth", growth.name, &size.to_string()], times);
+        }
+    }
+}

@@ -1,0 +1,141 @@
+//! differential PAIRS LISTS SEED: so many random program pairs and list pairs through the static library and through the
+//! separately written checker. Work memory is full of garbage before each call. Ends with status 1 at the first difference,
+//! whose inputs it saves (difference.left, difference.right).
+
+use std::collections::BTreeMap;
+use std::process::ExitCode;
+
+use beside::same::{Beside, Difference, Ours, Separate};
+use beside::workloads::{split, Pair};
+use separate::random::{ListPairs, Pairs, Random};
+use tengmua::{Refusal, Reply};
+
+/// How often each kind of reply came.
+#[derive(Default)]
+struct Histogram(BTreeMap<(u8, &'static str), usize>);
+
+impl Histogram {
+    fn add(&mut self, reply: Reply) {
+        let kind = match reply {
+            Reply::Equal(_) => (0, "equal"),
+            Reply::Differs(..) => (0, "differs"),
+            Reply::Refused(Refusal { question, .. }) => (question, "refused"),
+        };
+        *self.0.entry(kind).or_insert(0) += 1;
+    }
+
+    fn print(&self, entry: &str) {
+        let kinds = self.0.iter().map(|(&(question, kind), count)| match question {
+            0 => format!("{kind} {count}"),
+            _ => format!("{question}: {count}"),
+        });
+        println!("  {entry}: {}", kinds.collect::<Vec<_>>().join(", "));
+    }
+}
+
+struct Test {
+    beside: Beside<Ours, Separate>,
+    random: Random,
+}
+
+impl Test {
+    fn mask(&mut self) -> u16 {
+        match self.random.below(4) {
+            0 | 1 => tengmua::ALL,
+            2 => 1 << self.random.below(16),
+            _ => self.random.draw() as u16,
+        }
+    }
+
+    /// Pairs of valid, changed and damaged programs; each program is also unrolled alone.
+    fn programs(&mut self, count: usize, seed: u64) -> Result<(), Difference> {
+        let (mut compared, mut unrolled) = (Histogram::default(), Histogram::default());
+        let pairs = Pairs::new(seed).map(|input| whole(&input));
+        for (number, Pair { left, right }) in pairs.take(count).enumerate() {
+            let mask = self.mask();
+            let outcome = self.beside.programs(&left, &right, mask).and_then(|reply| {
+                Ok([reply, self.beside.unroll(&left)?, self.beside.unroll(&right)?])
+            });
+            let [reply, one, other] = outcome.map_err(|difference| {
+                save(&left, &right);
+                format!("pair {number}, mask {mask:#x}: {difference}")
+            })?;
+            compared.add(reply);
+            unrolled.add(one);
+            unrolled.add(other);
+        }
+        println!("{count} program pairs, seed {seed}: the same replies and memory");
+        compared.print("compare_programs");
+        unrolled.print("unroll");
+        Ok(())
+    }
+
+    /// Lists beside new orders of theirs, changed, damaged, cut off, in slices long and short; each is also checked alone.
+    fn lists(&mut self, count: usize, seed: u64) -> Result<(), Difference> {
+        let (mut compared, mut checked) = (Histogram::default(), Histogram::default());
+        for (number, pair) in ListPairs::new(seed).take(count).enumerate() {
+            let (mut left, right) = (pair.left.slice(), pair.right.slice());
+            if self.random.chance(10) {
+                self.cut(&mut left, pair.left.words.len());
+            }
+            let outcome = self.beside.lists(&left, &right, pair.mask).and_then(|reply| {
+                Ok([reply, self.beside.check(&left)?, self.beside.check(&right)?])
+            });
+            let [reply, one, other] = outcome.map_err(|difference| {
+                save(&bytes(&left), &bytes(&right));
+                format!("list pair {number}, mask {:#x}: {difference}", pair.mask)
+            })?;
+            compared.add(reply);
+            checked.add(one);
+            checked.add(other);
+        }
+        println!("{count} list pairs, seed {seed}: the same replies and memory");
+        compared.print("compare_lists");
+        checked.print("check_list");
+        Ok(())
+    }
+
+    /// Zeros from some word of the list on: often between two updates, where a shorter list is left.
+    fn cut(&mut self, list: &mut [u32], used: usize) {
+        let mut ends: Vec<_> = (98..used).step_by(3).filter(|&at| list[at] == 1).collect();
+        ends.extend([self.random.below(used + 1)]);
+        let from = *self.random.pick(&ends);
+        list[from..].fill(0);
+    }
+}
+
+/// The two programs of an input. One that is badly framed is a program as it stands, beside an empty one.
+fn whole(input: &[u8]) -> Pair {
+    split(input).unwrap_or_else(|| Pair { left: input.to_vec(), right: Vec::new() })
+}
+
+fn bytes(words: &[u32]) -> Vec<u8> {
+    words.iter().flat_map(|word| word.to_le_bytes()).collect()
+}
+
+fn save(left: &[u8], right: &[u8]) {
+    for (name, bytes) in [("difference.left", left), ("difference.right", right)] {
+        if let Err(error) = std::fs::write(name, bytes) {
+            eprintln!("{name}: {error}");
+        }
+    }
+}
+
+fn main() -> ExitCode {
+    let words = std::env::args().skip(1).map(|word| word.parse().ok());
+    let Some(&[pairs, lists, seed]) = words.collect::<Option<Vec<u64>>>().as_deref() else {
+        eprintln!("usage: differential PAIRS LISTS SEED");
+        return ExitCode::from(2);
+    };
+    let mut test =
+        Test { beside: Beside::new(Ours, Separate, seed), random: Random::new(seed ^ 0x5EED) };
+    let outcome =
+        test.programs(pairs as usize, seed).and_then(|()| test.lists(lists as usize, seed));
+    match outcome {
+        Ok(()) => ExitCode::SUCCESS,
+        Err(difference) => {
+            println!("{difference}");
+            ExitCode::FAILURE
+        }
+    }
+}

@@ -1,0 +1,147 @@
+//! The pairs that are timed: programs in the notation of `separate`, and those of the growth tables.
+
+use separate::notation::assemble;
+use separate::random::Pairs;
+
+/// Two programs that are compared.
+pub struct Pair {
+    pub left: Vec<u8>,
+    pub right: Vec<u8>,
+}
+
+/// A name for the table, and the pairs whose times are added up.
+pub struct Workload {
+    pub name: String,
+    pub pairs: Vec<Pair>,
+}
+
+fn bytes(text: &str) -> Vec<u8> {
+    assemble(text).unwrap_or_else(|error| panic!("{error} in\n{text}"))
+}
+
+fn workload(name: &str, left: &str, right: &str) -> Workload {
+    let pair = Pair { left: bytes(left), right: bytes(right) };
+    Workload { name: name.to_string(), pairs: vec![pair] }
+}
+
+macro_rules! example {
+    ($name:literal) => {
+        include_str!(concat!("../../../examples/", $name, ".txt"))
+    };
+}
+
+/// Every workload of the table, in its order.
+pub fn all(seed: u64) -> Vec<Workload> {
+    vec![
+        workload("Jacobi 16x2, skewed", example!("jacobi"), example!("jacobi-tiled")),
+        workload("Jacobi 128x7, skewed", &jacobi(128, 7), &jacobi_skewed(128, 7)),
+        workload("blur 22x22, in 4x4 tiles", example!("blur"), example!("blur-tiled")),
+        workload("product 11x11x11, ijk and kij", &product("ijk"), &product("kij")),
+        workload("65,536 rounds, nested and flat", ROUNDS_NESTED, ROUNDS_FLAT),
+        workload("4,096 terms, last first", &terms(1_024, false), &terms(1_024, true)),
+        mixed(1_000, seed),
+    ]
+}
+
+fn jacobi(points: i32, steps: i32) -> String {
+    format!(
+        "op add/2 op mul/2 array A inout [{points}] array B out [{points}]
+        for t = 1 to {steps} {{
+          for i = 1 to {last} {{ B[i] = mul(const 33333, add(add(A[i - 1], A[i]), A[i + 1])) }}
+          for i = 1 to {last} {{ A[i] = B[i] }}
+        }}",
+        last = points - 2,
+    )
+}
+
+/// The same in waves: point i of time t at c = i + 2t, the copy back one behind.
+fn jacobi_skewed(points: i32, steps: i32) -> String {
+    format!(
+        "op add/2 op mul/2 array A inout [{points}] array B out [{points}]
+        for c = 1 to {end} {{ for t = 0 to {last_step} {{
+          if c - 2*t - 1 >= 0 {{ if {last} - c + 2*t >= 0 {{
+            B[c - 2*t] =
+              mul(const 33333, add(add(A[c - 2*t - 1], A[c - 2*t]), A[c - 2*t + 1]))
+          }} }}
+          if c - 2*t - 2 >= 0 {{ if {points} - 1 - c + 2*t >= 0 {{
+            A[c - 2*t - 1] = B[c - 2*t - 1]
+          }} }}
+        }} }}",
+        end = points - 1 + 2 * (steps - 1),
+        last_step = steps - 1,
+        last = points - 2,
+    )
+}
+
+fn product(order: &str) -> String {
+    let loops: String = order.chars().map(|index| format!("for {index} = 0 to 10 {{ ")).collect();
+    format!(
+        "op fma/3 array A in [11, 11] array B in [11, 11] array C inout [11, 11]
+        {loops} C[i, j] = fma(A[i, k], B[k, j], C[i, j]) }} }} }}"
+    )
+}
+
+const ROUNDS_NESTED: &str = "array A out [1] for i = 1 to 256 { for j = 1 to 255 { } }";
+const ROUNDS_FLAT: &str = "array A out [1] for i = 0 to 32767 { } for i = 0 to -32767 step -1 { }";
+
+/// Four terms for each of `count`: two literals, and an operator over each.
+fn terms(count: i32, backwards: bool) -> String {
+    let last = count - 1;
+    let range = if backwards { format!("{last} to 0 step -1") } else { format!("0 to {last}") };
+    format!(
+        "op f/1 array B out [1024] array C out [1024]
+        for i = {range} {{ B[i] = f(i) }}
+        for i = {range} {{ C[i] = f(i + 1024) }}"
+    )
+}
+
+/// Random pairs, as the differential test has them; what is badly framed is left out.
+fn mixed(count: usize, seed: u64) -> Workload {
+    let pairs = Pairs::new(seed).filter_map(|input| split(&input)).take(count);
+    Workload { name: format!("{count} mixed pairs"), pairs: pairs.collect() }
+}
+
+/// The two programs of a framed input.
+pub fn split(input: &[u8]) -> Option<Pair> {
+    let (length, rest) = input.split_first_chunk()?;
+    let (left, right) = rest.split_at_checked(u16::from_le_bytes(*length) as usize)?;
+    Some(Pair { left: left.to_vec(), right: right.to_vec() })
+}
+
+/// A quantity that grows, and the pair for each of its sizes.
+pub struct Growth {
+    pub name: &'static str,
+    pub sizes: Vec<(usize, Pair)>,
+}
+
+fn doubling(from: usize, to: usize) -> impl Iterator<Item = usize> {
+    std::iter::successors(Some(from), |size| Some(size * 2)).take_while(move |&size| size <= to)
+}
+
+fn growth(name: &'static str, from: usize, to: usize, text: impl Fn(usize) -> String) -> Growth {
+    let both = |size| (size, Pair { left: bytes(&text(size)), right: bytes(&text(size)) });
+    Growth { name, sizes: doubling(from, to).map(both).collect() }
+}
+
+pub fn growths() -> Vec<Growth> {
+    vec![
+        growth("updates", 64, 2_048, |n| {
+            format!("array A in [1] array B out [1] for i = 1 to {n} {{ B[0] = A[0] }}")
+        }),
+        growth("nodes", 256, 8_192, |n| {
+            let rounds = n / 16;
+            format!(
+                "op f/4 op g/3 array A in [4] array B out [1]
+                for i = 1 to {rounds} {{
+                  B[0] = f(f(A[0], A[1], A[2], A[3]), f(A[0], A[0], A[1], A[1]),
+                    g(A[1], A[2], A[3]), A[2])
+                }}"
+            )
+        }),
+        growth("rounds", 2_048, 65_536, |n| {
+            let (one, other) = (n / 2 - 1, n / 2 - 1);
+            format!("array A out [1] for i = 0 to {one} {{ }} for i = 0 to {other} {{ }}")
+        }),
+        growth("terms", 128, 4_096, |n| terms(n as i32 / 4, false)),
+    ]
+}

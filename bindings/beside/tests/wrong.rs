@@ -1,0 +1,127 @@
+//! A checker that is wrong in one thing is found out: the differential test can fail.
+
+use beside::same::{Beside, Checker, Separate};
+use separate::notation::assemble;
+use tengmua::{Refusal, Reply, LIST_WORDS};
+
+/// What the wrong checker does.
+#[derive(Clone, Copy, PartialEq)]
+enum Wrong {
+    Nothing,
+    ReplyToPrograms,
+    ReplyToLists,
+    ReplyToProgram,
+    ReplyToList,
+    /// A word of work memory is not zero afterwards.
+    LeavesProgramWork,
+    LeavesListWork,
+    /// Work memory is cleared under 25.
+    ClearsUnderShort,
+    /// A word behind the list.
+    LeavesWord,
+}
+
+struct Checked(Wrong);
+
+fn other(reply: Reply) -> Reply {
+    match reply {
+        Reply::Equal(count) => Reply::Equal(count + 1),
+        _ => Reply::Equal(0),
+    }
+}
+
+fn is_short(reply: Reply) -> bool {
+    matches!(reply, Reply::Refused(Refusal { question: 25, .. }))
+}
+
+/// Whatever the lengths, something is there to be spoilt.
+fn spoil(slice: &mut [u32]) {
+    if let Some(word) = slice.last_mut() {
+        *word = word.wrapping_add(1);
+    }
+}
+
+impl Checker for Checked {
+    fn programs(&self, left: &[u8], right: &[u8], mask: u16, work: [&mut [u32]; 4]) -> Reply {
+        let [a, b, c, d] = work;
+        let reply = Separate.programs(left, right, mask, [&mut *a, &mut *b, &mut *c, &mut *d]);
+        if self.0 == Wrong::ClearsUnderShort && is_short(reply) {
+            [a, b, c, d].into_iter().for_each(|slice| slice.fill(0));
+        } else if self.0 == Wrong::LeavesProgramWork {
+            spoil(d);
+        }
+        if self.0 == Wrong::ReplyToPrograms {
+            other(reply)
+        } else {
+            reply
+        }
+    }
+
+    fn lists(&self, left: &[u32], right: &[u32], mask: u16, [c, d]: [&mut [u32]; 2]) -> Reply {
+        let reply = Separate.lists(left, right, mask, [&mut *c, &mut *d]);
+        if self.0 == Wrong::LeavesListWork {
+            spoil(c);
+        }
+        if self.0 == Wrong::ReplyToLists {
+            other(reply)
+        } else {
+            reply
+        }
+    }
+
+    fn unroll(&self, program: &[u8], list: &mut [u32]) -> Reply {
+        let reply = Separate.unroll(program, list);
+        if self.0 == Wrong::LeavesWord {
+            spoil(list);
+        }
+        if self.0 == Wrong::ReplyToProgram {
+            other(reply)
+        } else {
+            reply
+        }
+    }
+
+    fn check(&self, list: &[u32]) -> Reply {
+        let reply = Separate.check(list);
+        if self.0 == Wrong::ReplyToList {
+            other(reply)
+        } else {
+            reply
+        }
+    }
+}
+
+/// Does some of many calls of every entry find a difference?
+fn found(wrong: Wrong) -> bool {
+    let mut beside = Beside::new(Checked(wrong), Separate, 1);
+    let program = assemble("array A in [2] array B out [2] B[0] = A[1]").expect("a program");
+    let mut list = vec![0; LIST_WORDS];
+    separate::unroll(&program, &mut list).expect("a list");
+    (0..300).any(|_| {
+        beside.programs(&program, &program, tengmua::ALL).is_err()
+            || beside.lists(&list, &list, tengmua::ALL).is_err()
+            || beside.unroll(&program).is_err()
+            || beside.check(&list).is_err()
+    })
+}
+
+#[test]
+fn each_wrong_checker_is_found_out() {
+    use Wrong::*;
+    assert!(!found(Nothing));
+    for (number, wrong) in [
+        ReplyToPrograms,
+        ReplyToLists,
+        ReplyToProgram,
+        ReplyToList,
+        LeavesProgramWork,
+        LeavesListWork,
+        ClearsUnderShort,
+        LeavesWord,
+    ]
+    .into_iter()
+    .enumerate()
+    {
+        assert!(found(wrong), "wrong checker {number} was not found out");
+    }
+}

@@ -1,0 +1,270 @@
+/* fuzz COUNT SEED: so many calls of each entry with random bytes and words, beside the separately written checker (libtwin.a).
+ *
+ * Build with -fsanitize=address. The library itself is not built so: therefore each slice either stands in memory of its own from
+ * malloc, where the sanitizer sees what memcpy and memset touch, or against a page that can't be touched, before it or behind
+ * it. Work memory holds garbage first. The replies and all memory afterwards must be the same on both sides. */
+#include <stdio.h>
+#include <stdlib.h>
+#include <string.h>
+#include <sys/mman.h>
+#include <unistd.h>
+
+#include "tengmua.h"
+
+/* The separately written checker (bindings/twin). */
+tengmua_reply twin_compare_programs(const uint8_t *, size_t, const uint8_t *, size_t, uint16_t, uint32_t *, size_t,
+                                    uint32_t *, size_t, uint32_t *, size_t, uint32_t *, size_t);
+tengmua_reply twin_compare_lists(const uint32_t *, size_t, const uint32_t *, size_t, uint16_t, uint32_t *, size_t,
+                                 uint32_t *, size_t);
+tengmua_reply twin_unroll(const uint8_t *, size_t, uint32_t *, size_t);
+tengmua_reply twin_check_list(const uint32_t *, size_t);
+void twin_seed(uint64_t seed);
+void twin_programs(uint8_t *left, uint8_t *right, size_t room, size_t *lengths);
+void twin_lists(uint32_t *left, uint32_t *right, size_t room, size_t *lengths);
+
+#define MOST_BYTES 20000
+#define MOST_WORDS 36000
+
+static uint64_t state;
+
+static uint64_t draw(void) {
+    uint64_t bits = state += 0x9E3779B97F4A7C15u;
+    bits = (bits ^ bits >> 30) * 0xBF58476D1CE4E5B9u;
+    bits = (bits ^ bits >> 27) * 0x94D049BB133111EBu;
+    return bits ^ bits >> 31;
+}
+
+static size_t below(size_t count) { return (size_t)(draw() % count); }
+
+/* A slice, and the memory it stands in. */
+typedef struct {
+    void *data;
+    size_t bytes;
+    void *pages;
+    size_t mapped;
+} slice;
+
+static void must(int yes, const char *what) {
+    if (!yes) {
+        printf("%s\n", what);
+        exit(1);
+    }
+}
+
+/* Between two pages that can't be touched, flush with the one behind it or, by chance, with the one before it. */
+static slice guarded(size_t bytes) {
+    size_t page = (size_t)sysconf(_SC_PAGESIZE);
+    size_t inner = (bytes + page - 1) / page * page;
+    slice s = {NULL, bytes, NULL, inner + 2 * page};
+    s.pages = mmap(NULL, s.mapped, PROT_NONE, MAP_PRIVATE | MAP_ANONYMOUS, -1, 0);
+    must(s.pages != MAP_FAILED, "mmap failed");
+    char *start = (char *)s.pages + page;
+    if (inner)
+        must(mprotect(start, inner, PROT_READ | PROT_WRITE) == 0, "mprotect failed");
+    s.data = start + (below(2) ? inner - bytes : 0);
+    return s;
+}
+
+static slice lend(size_t bytes) {
+    if (below(2))
+        return guarded(bytes);
+    slice s = {malloc(bytes), bytes, NULL, 0};
+    must(s.data != NULL, "malloc failed");
+    return s;
+}
+
+static slice copied(const void *from, size_t bytes) {
+    slice s = lend(bytes);
+    memcpy(s.data, from, bytes);
+    return s;
+}
+
+static void give_back(slice s) {
+    if (s.mapped)
+        munmap(s.pages, s.mapped);
+    else
+        free(s.data);
+}
+
+/* Work memory of garbage, for both checkers alike. Lengths around the least, rarely far below. */
+typedef struct {
+    slice ours, theirs;
+    size_t words;
+} twins;
+
+static size_t around(size_t least) {
+    switch (below(40)) {
+    case 0:
+        return below(least);
+    case 1:
+        return least - 1;
+    case 2:
+    case 3:
+        return least + below(500);
+    default:
+        return least;
+    }
+}
+
+static twins garbage(size_t least) {
+    twins t;
+    t.words = around(least);
+    t.ours = lend(4 * t.words);
+    for (size_t i = 0; i < t.words; i++)
+        ((uint32_t *)t.ours.data)[i] = (uint32_t)draw();
+    t.theirs = copied(t.ours.data, 4 * t.words);
+    return t;
+}
+
+/* What both left; gives the memory back. */
+static int alike(twins t) {
+    int same = memcmp(t.ours.data, t.theirs.data, 4 * t.words) == 0;
+    give_back(t.ours);
+    give_back(t.theirs);
+    return same;
+}
+
+static int same_reply(tengmua_reply one, tengmua_reply other) {
+    return one.kind == other.kind && one.first == other.first && one.second == other.second && one.third == other.third;
+}
+
+/* How often each kind of reply came, for the report: a run that only refuses shows. */
+static size_t kinds[4][3];
+
+static void note(int entry, tengmua_reply ours, tengmua_reply theirs, int memory, size_t number) {
+    static const char *const names[] = {"compare_programs", "compare_lists", "unroll", "check_list"};
+    if (!same_reply(ours, theirs) || !memory) {
+        printf("%s, call %zu: ours %zu %zu %zu %zu, separate %zu %zu %zu %zu, memory %s\n", names[entry], number, ours.kind,
+               ours.first, ours.second, ours.third, theirs.kind, theirs.first, theirs.second, theirs.third,
+               memory ? "alike" : "not alike");
+        exit(1);
+    }
+    must(ours.kind < 3, "no such kind");
+    kinds[entry][ours.kind]++;
+}
+
+static uint8_t left_bytes[MOST_BYTES], right_bytes[MOST_BYTES];
+static uint32_t left_words[MOST_WORDS], right_words[MOST_WORDS];
+static size_t lengths[2];
+
+static uint8_t small_byte(void) { return (uint8_t)(below(4) ? below(20) : draw()); }
+
+/* Random bytes; or such behind a right mark and version; or two programs, often with a few bytes changed. */
+static void make_programs(void) {
+    size_t way = below(4);
+    if (way >= 2) {
+        twin_programs(left_bytes, right_bytes, MOST_BYTES, lengths);
+        for (size_t k = way == 2 ? below(6) : 0; k > 0; k--) {
+            uint8_t *bytes = below(2) ? left_bytes : right_bytes;
+            size_t length = lengths[bytes == right_bytes];
+            if (length)
+                bytes[below(length)] = small_byte();
+        }
+        return;
+    }
+    for (int side = 0; side < 2; side++) {
+        uint8_t *bytes = side ? right_bytes : left_bytes;
+        lengths[side] = below(below(8) ? 200 : MOST_BYTES);
+        for (size_t i = 0; i < lengths[side]; i++)
+            bytes[i] = way ? small_byte() : (uint8_t)draw();
+        if (way && lengths[side] >= 4)
+            memcpy(bytes, "ALP\1", 4);
+    }
+}
+
+static uint32_t small_word(void) { return (uint32_t)(below(4) ? below(24) : draw()); }
+
+/* Random words, all or few of them; or two lists, often with a few words changed. The lengths are those of the slices. */
+static void make_lists(void) {
+    memset(left_words, 0, sizeof left_words);
+    memset(right_words, 0, sizeof right_words);
+    size_t way = below(4);
+    if (way >= 2)
+        twin_lists(left_words, right_words, MOST_WORDS, lengths);
+    for (int side = 0; side < 2; side++) {
+        uint32_t *words = side ? right_words : left_words;
+        size_t used = way >= 2 ? lengths[side] : below(below(4) ? 400 : MOST_WORDS);
+        size_t changes = way == 3 ? 0 : way == 2 ? below(4) : used;
+        for (size_t k = 0; k < changes; k++)
+            words[way == 2 ? below(used + 8) : k] = way ? small_word() : (uint32_t)draw();
+        lengths[side] = around(TENGMUA_LIST_WORDS);
+    }
+}
+
+static uint16_t any_mask(void) { return (uint16_t)(below(2) ? TENGMUA_ALL : draw()); }
+
+static void call_programs(size_t number) {
+    make_programs();
+    slice left = copied(left_bytes, lengths[0]), right = copied(right_bytes, lengths[1]);
+    twins a = garbage(TENGMUA_LIST_WORDS), b = garbage(TENGMUA_LIST_WORDS), c = garbage(TENGMUA_CELL_WORDS),
+          d = garbage(TENGMUA_TERM_WORDS);
+    uint16_t mask = any_mask();
+    tengmua_reply ours =
+        tengmua_compare_programs(left.data, left.bytes, right.data, right.bytes, mask, a.ours.data, a.words,
+                                 b.ours.data, b.words, c.ours.data, c.words, d.ours.data, d.words);
+    tengmua_reply theirs =
+        twin_compare_programs(left.data, left.bytes, right.data, right.bytes, mask, a.theirs.data, a.words,
+                              b.theirs.data, b.words, c.theirs.data, c.words, d.theirs.data, d.words);
+    int memory = alike(a) & alike(b) & alike(c) & alike(d);
+    give_back(left);
+    give_back(right);
+    note(0, ours, theirs, memory, number);
+}
+
+static void call_lists(size_t number) {
+    make_lists();
+    slice left = copied(left_words, 4 * lengths[0]), right = copied(right_words, 4 * lengths[1]);
+    twins c = garbage(TENGMUA_CELL_WORDS), d = garbage(TENGMUA_TERM_WORDS);
+    uint16_t mask = any_mask();
+    tengmua_reply ours = tengmua_compare_lists(left.data, lengths[0], right.data, lengths[1], mask, c.ours.data, c.words,
+                                               d.ours.data, d.words);
+    tengmua_reply theirs = twin_compare_lists(left.data, lengths[0], right.data, lengths[1], mask, c.theirs.data, c.words,
+                                              d.theirs.data, d.words);
+    int memory = alike(c) & alike(d);
+    give_back(left);
+    give_back(right);
+    note(1, ours, theirs, memory, number);
+}
+
+static void call_unroll(size_t number) {
+    make_programs();
+    slice program = copied(left_bytes, lengths[0]);
+    twins list = garbage(TENGMUA_LIST_WORDS);
+    tengmua_reply ours = tengmua_unroll(program.data, program.bytes, list.ours.data, list.words);
+    tengmua_reply theirs = twin_unroll(program.data, program.bytes, list.theirs.data, list.words);
+    int memory = alike(list);
+    give_back(program);
+    note(2, ours, theirs, memory, number);
+}
+
+static void call_check(size_t number) {
+    make_lists();
+    slice list = copied(left_words, 4 * lengths[0]);
+    tengmua_reply ours = tengmua_check_list(list.data, lengths[0]);
+    tengmua_reply theirs = twin_check_list(list.data, lengths[0]);
+    int memory = memcmp(list.data, left_words, 4 * lengths[0]) == 0;
+    give_back(list);
+    note(3, ours, theirs, memory, number);
+}
+
+int main(int count, char **words) {
+    if (count != 3) {
+        fprintf(stderr, "usage: fuzz COUNT SEED\n");
+        return 2;
+    }
+    size_t calls = strtoull(words[1], NULL, 10);
+    uint64_t seed = strtoull(words[2], NULL, 10);
+    state = seed;
+    twin_seed(seed);
+    for (size_t k = 0; k < calls; k++) {
+        call_programs(k);
+        call_lists(k);
+        call_unroll(k);
+        call_check(k);
+    }
+    printf("fuzz %zu, seed %llu: the same replies and memory (equal, differs, refused: programs %zu %zu %zu, lists %zu %zu "
+           "%zu, unroll %zu %zu %zu, check %zu %zu %zu)\n",
+           calls, (unsigned long long)seed, kinds[0][0], kinds[0][1], kinds[0][2], kinds[1][0], kinds[1][1], kinds[1][2],
+           kinds[2][0], kinds[2][1], kinds[2][2], kinds[3][0], kinds[3][1], kinds[3][2]);
+    return 0;
+}

@@ -1,0 +1,71 @@
+/* The proved loop pair checker. Link with target/staticlib/libcabi.a, which `rt staticlib cabi` writes (x86-64 Linux).
+ *
+ * A slice is a pointer and its number of elements. The pointer is not null, also where the number is 0, and is aligned for its
+ * type. A slice that is written overlaps no other slice of the call. Nothing else is asked: each function answers every
+ * content and every length, keeps nothing between calls and asks the system for nothing, so any thread may call it. Its stack
+ * stays below 128 KB.
+ *
+ * What each reply means is paper 01's: "equal" says that both programs leave the same value in each compared element for every
+ * starting content and every meaning of the operators and constants. The promises are crates/cabi/src/lib.rt's. */
+#ifndef TENGMUA_H
+#define TENGMUA_H
+
+#include <stddef.h>
+#include <stdint.h>
+
+#ifdef __cplusplus
+extern "C" {
+#endif
+
+/* Elements that question 25 asks of a slice, at least. */
+#define TENGMUA_LIST_WORDS 32768
+#define TENGMUA_CELL_WORDS 4096
+#define TENGMUA_TERM_WORDS 32768
+
+/* The mask that compares every out and inout array. */
+#define TENGMUA_ALL 0xFFFF
+
+enum tengmua_kind { TENGMUA_EQUAL = 0, TENGMUA_DIFFERS = 1, TENGMUA_REFUSED = 2 };
+enum tengmua_side { TENGMUA_LEFT = 0, TENGMUA_RIGHT = 1, TENGMUA_BOTH = 2, TENGMUA_INPUT = 3 };
+
+/* kind      first                          second            third
+ * EQUAL     number of elements compared    0                 0
+ * DIFFERS   array                          cell              0
+ * REFUSED   side                           question, 1..26   place
+ * Of tengmua_unroll, EQUAL has the number of updates; of tengmua_check_list, 0. */
+typedef struct {
+    size_t kind;
+    size_t first;
+    size_t second;
+    size_t third;
+} tengmua_reply;
+
+/* Compares two programs in the out and inout arrays whose bit of the mask is 1. The four lists of words are work memory: they
+ * may hold anything, and hold zeros afterwards; under question 25 they hold what they held. */
+tengmua_reply tengmua_compare_programs(const uint8_t *left, size_t left_length,
+                                       const uint8_t *right, size_t right_length,
+                                       uint16_t mask,
+                                       uint32_t *left_list, size_t left_list_length,
+                                       uint32_t *right_list, size_t right_list_length,
+                                       uint32_t *cells, size_t cells_length,
+                                       uint32_t *terms, size_t terms_length);
+
+/* Compares two lists (docs/LAYOUT.md), which may hold anything and are only read. Work memory as above. */
+tengmua_reply tengmua_compare_lists(const uint32_t *left, size_t left_length,
+                                    const uint32_t *right, size_t right_length,
+                                    uint16_t mask,
+                                    uint32_t *cells, size_t cells_length,
+                                    uint32_t *terms, size_t terms_length);
+
+/* Writes the list of a program, with zeros after it. On a refusal the list is all zeros; under question 25 it is untouched. */
+tengmua_reply tengmua_unroll(const uint8_t *program, size_t program_length,
+                             uint32_t *list, size_t list_length);
+
+/* Is this the layout of an allowed list (26), in a slice that is long enough (25)? */
+tengmua_reply tengmua_check_list(const uint32_t *list, size_t list_length);
+
+#ifdef __cplusplus
+}
+#endif
+
+#endif

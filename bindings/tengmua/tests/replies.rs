@@ -1,0 +1,101 @@
+//! Known pairs through the wrapper, and memory of any length.
+
+use tengmua::{
+    check_list, compare_lists, compare_programs, unroll, Refusal, Reply, Side, Work, ALL,
+    CELL_WORDS, LIST_WORDS, TERM_WORDS,
+};
+
+const SHORT: Refusal = Refusal { side: Side::Both, question: 25, place: 0 };
+
+macro_rules! example {
+    ($name:literal) => {
+        include_bytes!(concat!("../../../examples/", $name, ".alp"))
+    };
+}
+
+#[test]
+fn examples_have_their_lines() {
+    let mut work = Work::default();
+    let mut line = |left: &[u8], right: &[u8]| work.programs(left, right, ALL).to_string();
+    assert_eq!(line(example!("jacobi"), example!("jacobi-tiled")), "equal 32");
+    assert_eq!(line(example!("jacobi"), example!("jacobi-wrong-skew")), "differs 0 2");
+    assert_eq!(line(example!("copy"), example!("outside")), "refused right 16 22");
+}
+
+#[test]
+fn the_mask_chooses_arrays() {
+    let mut work = Work::default();
+    // Array 0 differs first at cell 2; array 1 alone has its own first difference, and no array has none.
+    let mut reply = |mask| work.programs(example!("jacobi"), example!("jacobi-wrong-skew"), mask);
+    assert_eq!(reply(1), Reply::Differs(0, 2));
+    assert!(matches!(reply(2), Reply::Differs(1, _)));
+    assert_eq!(reply(0), Reply::Equal(0));
+}
+
+#[test]
+fn a_list_is_unrolled_checked_and_compared() {
+    let mut work = Work::default();
+    let [mut left, mut right] = [vec![7; LIST_WORDS], vec![9; LIST_WORDS + 5]];
+    assert_eq!(unroll(example!("blur"), &mut left), Ok(400));
+    assert_eq!(unroll(example!("blur-tiled"), &mut right), Ok(400));
+    assert_eq!(check_list(&left), Ok(()));
+    assert_eq!(work.lists(&left, &right, ALL), Reply::Equal(400));
+    left[98] = 2;
+    let none = Refusal { side: Side::Left, question: 26, place: 0 };
+    assert_eq!(check_list(&left), Err(none));
+    assert_eq!(work.lists(&left, &right, ALL), Reply::Refused(none));
+    let right_side = Refusal { side: Side::Right, ..none };
+    assert_eq!(work.lists(&right, &left, ALL), Reply::Refused(right_side));
+}
+
+/// 25 comes first, of each slice, and touches nothing.
+#[test]
+fn short_memory_is_refused_and_untouched() {
+    let enough = [LIST_WORDS, LIST_WORDS, CELL_WORDS, TERM_WORDS];
+    for short in 0..4 {
+        let mut memory = enough.map(|words| vec![3; words]);
+        memory[short].pop();
+        let [a, b, c, d] = &mut memory;
+        let reply = compare_programs(&[], &[], ALL, a, b, c, d);
+        assert_eq!(reply, Reply::Refused(SHORT));
+        assert_eq!(compare_lists(a, b, ALL, c, d), Reply::Refused(SHORT));
+        assert!(memory.iter().flatten().all(|&word| word == 3));
+    }
+    assert_eq!(unroll(&[], &mut []), Err(SHORT));
+    assert_eq!(check_list(&[]), Err(SHORT));
+}
+
+/// The header says that 128 KB of stack are enough; a thread that had too few would end the test with a fault.
+#[test]
+fn little_stack_is_enough() {
+    let deep = deep();
+    let run = move || {
+        let mut work = Work::default();
+        let reply = work.programs(&deep, &deep, ALL);
+        let mut list = vec![0; LIST_WORDS];
+        assert_eq!(unroll(&deep, &mut list), Ok(1));
+        assert_eq!(check_list(&list), Ok(()));
+        assert_eq!(work.lists(&list, &list, ALL), Reply::Equal(1));
+        reply
+    };
+    let thread = std::thread::Builder::new().stack_size(128 << 10).spawn(run).expect("a thread");
+    assert_eq!(thread.join().expect("an end"), Reply::Equal(1));
+}
+
+/// Eight loops and guards deep, with operators twelve deep.
+fn deep() -> Vec<u8> {
+    // One operator of arity 1; one out array of one dimension and extent 1.
+    let mut bytes = b"ALP\x01\0\x01\x01\x01\x01\x01\x01\0".to_vec();
+    for level in 0..8 {
+        // A loop from 0 to 0: two forms of a constant and a coefficient for each enclosing loop, then the step.
+        bytes.push(2);
+        let form = vec![0; 2 + level];
+        bytes.extend([&form[..], &form, &[1, 0]].concat());
+    }
+    bytes.extend([1, 0]);
+    bytes.extend([0; 10]);
+    bytes.extend([17, 0].repeat(12));
+    bytes.extend([19, 7, 0, 0, 0]);
+    bytes.extend([0; 9]);
+    bytes
+}
