@@ -32,6 +32,13 @@ macro_rules! example {
 
 /// Every workload of the table, in its order.
 pub fn all(seed: u64) -> Vec<Workload> {
+    let mut workloads = single();
+    workloads.push(mixed(1_000, seed));
+    workloads
+}
+
+/// Those of one pair.
+pub fn single() -> Vec<Workload> {
     vec![
         workload("Jacobi 16x2, skewed", example!("jacobi"), example!("jacobi-tiled")),
         workload("Jacobi 128x7, skewed", &jacobi(128, 7), &jacobi_skewed(128, 7)),
@@ -39,7 +46,6 @@ pub fn all(seed: u64) -> Vec<Workload> {
         workload("product 11x11x11, ijk and kij", &product("ijk"), &product("kij")),
         workload("65,536 rounds, nested and flat", ROUNDS_NESTED, ROUNDS_FLAT),
         workload("4,096 terms, last first", &terms(1_024, false), &terms(1_024, true)),
-        mixed(1_000, seed),
     ]
 }
 

@@ -1,12 +1,12 @@
 //! call WHO ENTRY NUMBER [COUNT]: calls one entry of one checker on the pairs of one workload, COUNT times (default 1), and does
-//! little else: for callgrind. WHO is `ours` or `separate`; ENTRY is programs, lists, unroll or check; NUMBER is the workload's
-//! in the table, from 0.
+//! little else: for callgrind. WHO is `ours` or `separate`; ENTRY is programs, lists, unroll or check; NUMBER is that of a
+//! workload of one pair in the table, from 0.
 
 use std::hint::black_box;
 
 use beside::memory::ENOUGH;
 use beside::same::{Checker, Ours, Separate};
-use beside::workloads::{all, Pair};
+use beside::workloads::{single, Pair};
 use tengmua::{ALL, LIST_WORDS};
 
 fn done<T>(answer: T) {
@@ -48,7 +48,7 @@ fn main() {
     };
     let number: usize = number.parse().expect("a workload's number");
     let count = rest.first().map_or(1, |count| count.parse().expect("a number"));
-    let workloads = all(1);
+    let workloads = single();
     let pairs = &workloads[number].pairs;
     match who.as_str() {
         "ours" => call(&Ours, entry, pairs, count),
