@@ -1,4 +1,5 @@
-// Reads known programs, accepted and refused, and writes what is said of each, one line each.
+// Reads known programs, accepted and refused, and writes what is said of each, one line each; then the lines of the known pairs.
+mod pairs;
 mod rows;
 
 fn main() {
@@ -17,4 +18,5 @@ fn main() {
     rows::operators_deep();
     rows::ends();
     rows::lengths();
+    pairs::all();
 }

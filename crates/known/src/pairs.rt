@@ -1,0 +1,68 @@
+// The pairs that paper 01 names (tools/known_rows), as a stream on standard input: the line of each.
+ghost use Prim.Native.Nat.{_≤_};
+
+pub fn all() {
+    let mut turns: u32 = 0;
+    while turns < 100000000 {
+        turns += 1;
+        if !next() {
+            return;
+        }
+    }
+}
+
+// The next pair, if there is one: a length of four bytes, then so many bytes.
+fn next() -> bool {
+    let mut input = [0u8; 65536];
+    take(&mut input, length())
+}
+
+fn take(input: &mut [u8], n: usize) -> bool {
+    if n > input.len() {
+        return false;
+    }
+    let got = io::read_full(0, &mut input[0..n]);
+    if got > input.len() {
+        return false;
+    }
+    answer(&input[0..got]);
+    true
+}
+
+fn answer(input: &[u8]) {
+    let mut left_list = [0u32; 32768];
+    let mut right_list = [0u32; 32768];
+    let mut cells = [0u32; 4096];
+    let mut terms = [0u32; 32768];
+    let reply = comparer::compare_input(
+        input,
+        &mut left_list,
+        &mut right_list,
+        &mut cells,
+        &mut terms,
+    );
+    let line = comparer::line_of(reply);
+    let bytes = line.bytes;
+    print(&bytes, line.len);
+}
+
+// At the end of the stream a length that no pair has.
+fn length() -> usize {
+    let mut head = [0u8; 4];
+    if io::read_full(0, &mut head) < 4 {
+        return 4294967296;
+    }
+    wide(head[0]) + 256 * (wide(head[1]) + 256 * (wide(head[2]) + 256 * wide(head[3])))
+}
+
+fn wide(x: u8) -> usize
+    ensures { λ r. ⌜ r ≤ 255 ⌝ }
+{
+    x as usize
+}
+
+fn print(bytes: &[u8], n: usize) {
+    if n <= bytes.len() {
+        io::write_all(1, &bytes[0..n]);
+    }
+}
