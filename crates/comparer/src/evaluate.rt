@@ -192,17 +192,21 @@ fn args(
     requires { ⌜ (98 ≤ length (now list)) × (n ≤ 4) ⌝ }
     ensures { λ r. ⌜ WorksAll (now (bases .entry)) (now (list .entry)) left at (now (cells .entry)) (now (terms .entry)) count k n ids (r .at) (r .count) (r .ids) (now (terms .exit)) ⌝ }
 {
-    if k >= n {
-        return Row { at, count, ids };
-    }
-    let s = node(list, at, bases, cells, terms, count, left);
-    let count = s.count;
-    if count > 4096 {
-        return Row { at, count, ids };
-    }
+    let mut at = at;
+    let mut count = count;
+    let mut k = k;
     let mut ids = ids;
-    ids[k] = s.id;
-    args(list, s.at, bases, cells, terms, count, left, k + 1, n, ids)
+    while k < n {
+        let s = node(list, at, bases, cells, terms, count, left);
+        count = s.count;
+        if count > 4096 {
+            return Row { at, count, ids };
+        }
+        ids[k] = s.id;
+        at = s.at;
+        k += 1;
+    }
+    Row { at, count, ids }
 }
 
 // Works out the updates one after another. The answer is the number of terms then, or above 4,096 where they have no room.

@@ -2,7 +2,11 @@ use Rattle.comparer.proofs.Leaves.{node-leaf}
 use Rattle.comparer.proofs.Arguments.{node-short, node-deep, node-done, all-none, all-full, all-step}
 use borrow.Author.Needs.{needs}
 use native.Mathlib.Omega.{arith}
+use mathlib.Core.Path.{_≡_, refl, _∙_}
+use mathlib.Core.List.{List}
 use Prim.Native.Nat.{ℕ, _<_, _+_, _*_, _-_}
+use lib.ListN.{length}
+use Rattle.comparer.specs.Work.{WorksAll}
 use borrow.Fn.Kinds.{In}
 use borrow.Fn.PlainCycle.{Measures, is, falls, and}
 use Rattle.comparer.proofs.evaluate.args.Reads as args
@@ -19,10 +23,10 @@ use Rattle.comparer.proofs.evaluate.+args+node.{statement}
 use Rattle.comparer.proofs.evaluate.+args+node.Tie.{close}
 
 abbrev μ-args : Measures 4 args-kinds.ps ℕ
-μ-args κs a = 6 * a .1 .1 .1 .1 .1 .1 .0 + (5 - a .1 .1 .1 .1 .1 .1 .1 .0)
+μ-args κs a = 2 * a .1 .1 .1 .1 .1 .1 .0 + 1
 
 abbrev μ-node : Measures 4 node-kinds.ps ℕ
-μ-node κs a = 6 * a .1 .1 .1 .1 .1 .1 .0
+μ-node κs a = 2 * a .1 .1 .1 .1 .1 .1 .0
 
 abbrev args-at : ℕ → In 4 args-kinds.ps
 args-at t = and 4 args-kinds.ps (is 4 args-kinds.ps μ-args t) args.Pre
@@ -36,42 +40,54 @@ node-at t = and 4 node-kinds.ps (is 4 node-kinds.ps μ-node t) node.Pre
 abbrev node-below : ℕ → In 4 node-kinds.ps
 node-below t = and 4 node-kinds.ps (falls 4 node-kinds.ps _<_ μ-node t) node.Pre
 
+-- an answer for the arguments from k on is one for those from k₀ on
+abbrev args-Inv-loop : args-lts.InvT-loop
+args-Inv-loop list start bases cells terms₀ number left first n at₀ count₀ k₀ ids₀ terms at count k ids =
+    (length terms ≡ length terms₀)
+    × ((at' count' : ℕ) (ids' m' : List ℕ) → WorksAll bases list left at cells terms count k n ids at' count' ids' m' → WorksAll bases list left at₀ cells terms₀ count₀ k₀ n ids₀ at' count' ids' m')
+
+abbrev args-μ-loop : args-lts.MeasureT-loop
+args-μ-loop list start bases cells terms₀ number left first n at₀ count₀ k₀ ids₀ terms at count k ids = n - k
+
 abbrev args-claims : ℕ → args-lts.Claims
-args-claims t = (node-below t, node.Post, args-below t, args.Post)
+args-claims t = (node-below t, node.Post)
 
 abbrev node-claims : ℕ → node-lts.Claims
 node-claims t = (no-room-reads.Asked, no-room-reads.Learnt, leaf-reads.Asked, leaf-reads.Learnt, arity-reads.Asked, arity-reads.Learnt, args-below t, args.Post, operate-reads.Asked, operate-reads.Learnt)
 
 module _ (t : ℕ) where
-  args-returns : args-lts.Need-returns (args-claims t) (args-at t) args.Post
-  args-returns c = all-none _ _ _ _ _ _ _ _ _ _ (c .if1 .taken)
+  args-loop-holds : args-lts.Need-loop-holds (args-claims t) (args-at t) args.Post args-Inv-loop args-μ-loop
+  args-loop-holds c = (refl, λ at count ids m w. w)
 
-  args-node-requires : args-lts.Need-node-requires (args-claims t) (args-at t) args.Post
+  args-node-requires : args-lts.Need-node-requires (args-claims t) (args-at t) args.Post args-Inv-loop args-μ-loop
   args-node-requires c κs = (omega arith, search needs)
 
-  args-same-length : args-lts.Need-same-length (args-claims t) (args-at t) args.Post
-  args-same-length c = search needs
+  args-same-length : args-lts.Need-same-length (args-claims t) (args-at t) args.Post args-Inv-loop args-μ-loop
+  args-same-length c = c .before .before .before .node .kept .1 .1 .1 .1 .0 ∙ c .before .before .before .before .before .before .loop .inv .0
 
-  args-returns-2 : args-lts.Need-returns-2 (args-claims t) (args-at t) args.Post
-  args-returns-2 c = all-full _ _ _ _ _ _ _ _ _ _ (c .before .before .before .before .before .if1 .left) _ _ _ _ (c .before .before .before .node .ensures) (c .if2 .taken) _ _
+  args-returns : args-lts.Need-returns (args-claims t) (args-at t) args.Post args-Inv-loop args-μ-loop
+  args-returns c = c .before .before .before .before .before .before .loop .inv .1 _ _ _ _ (all-full _ _ _ _ _ _ _ _ _ _ (c .before .before .before .before .before .loop-test .taken) _ _ _ _ (c .before .before .before .node .ensures) (c .if1 .taken) _ _)
 
-  args-mul-ids : args-lts.Need-mul-ids (args-claims t) (args-at t) args.Post
+  args-mul-ids : args-lts.Need-mul-ids (args-claims t) (args-at t) args.Post args-Inv-loop args-μ-loop
   args-mul-ids c = search needs
 
-  args-array-write-ids : args-lts.Need-array-write-ids (args-claims t) (args-at t) args.Post
+  args-array-write-ids : args-lts.Need-array-write-ids (args-claims t) (args-at t) args.Post args-Inv-loop args-μ-loop
   args-array-write-ids c = search needs
 
-  args-add-args : args-lts.Need-add-args (args-claims t) (args-at t) args.Post
-  args-add-args c = omega arith
+  args-add-k : args-lts.Need-add-k (args-claims t) (args-at t) args.Post args-Inv-loop args-μ-loop
+  args-add-k c = omega arith
 
-  args-args-requires : args-lts.Need-args-requires (args-claims t) (args-at t) args.Post
-  args-args-requires c κs = (omega arith, search needs)
+  args-loop-less : args-lts.Need-loop-less (args-claims t) (args-at t) args.Post args-Inv-loop args-μ-loop
+  args-loop-less c = omega arith
 
-  args-same-length-2 : args-lts.Need-same-length-2 (args-claims t) (args-at t) args.Post
-  args-same-length-2 c = search needs
+  args-loop-again : args-lts.Need-loop-again (args-claims t) (args-at t) args.Post args-Inv-loop args-μ-loop
+  args-loop-again c = (c .before .before .before .node .kept .1 .1 .1 .1 .0 ∙ c .before .before .before .before .before .before .loop .inv .0, λ at count ids m w. c .before .before .before .before .before .before .loop .inv .1 at count ids m (all-step _ _ _ _ _ _ _ _ _ _ (c .before .before .before .before .before .loop-test .taken) _ _ _ _ (c .before .before .before .node .ensures) (c .if1 .left) (c .before .before .before .before .before .before .before .before .before .before .pre .1 .1) at count ids m w))
 
-  args-returns-3 : args-lts.Need-returns-3 (args-claims t) (args-at t) args.Post
-  args-returns-3 c = all-step _ _ _ _ _ _ _ _ _ _ (c .before .before .before .before .before .before .before .before .before .if1 .left) _ _ _ _ (c .before .before .before .before .before .before .before .node .ensures) (c .before .before .before .before .if2 .left) (c .before .before .before .before .before .before .before .before .before .before .before .before .before .pre .1 .1) _ _ _ _ (c .before .before .args2 .ensures)
+  args-same-length-2 : args-lts.Need-same-length-2 (args-claims t) (args-at t) args.Post args-Inv-loop args-μ-loop
+  args-same-length-2 c = c .before .loop .inv .0
+
+  args-returns-2 : args-lts.Need-returns-2 (args-claims t) (args-at t) args.Post args-Inv-loop args-μ-loop
+  args-returns-2 c = c .before .loop .inv .1 _ _ _ _ (all-none _ _ _ _ _ _ _ _ _ _ (c .loop-test .left))
 
   node-sub-if1 : node-lts.Need-sub-if1 (node-claims t) (node-at t) node.Post
   node-sub-if1 c = omega arith
@@ -134,4 +150,4 @@ module _ (t : ℕ) where
   node-returns-4 c = node-done _ _ _ _ _ _ _ (c .before .before .before .before .before .before .before .before .before .before .before .if2 .left) _ (c .before .before .before .before .before .before .before .before .arity .ensures) _ _ _ _ (c .before .before .before .before .before .before .args2 .ensures) _ _ _ _ (c .before .before .operate .ensures)
 
 pub +args+node-spec : {M : Type 1} → statement M
-+args+node-spec = close μ-args μ-node (λ t. args-lts.spec (args-claims t) (args-at t) args.Post (args-returns t) (args-node-requires t) (args-same-length t) (args-returns-2 t) (args-mul-ids t) (args-array-write-ids t) (args-add-args t) (args-args-requires t) (args-same-length-2 t) (args-returns-3 t)) λ t. node-lts.spec (node-claims t) (node-at t) node.Post (node-sub-if1 t) (node-no-room-requires t) (node-returns t) (node-mul-if2 t) (node-shared-slice-read-if2 t) (node-leaf-requires t) (node-same-length t) (node-returns-2 t) (node-no-room-requires-2 t) (node-returns-3 t) (node-add-o t) (node-mul-o t) (node-shared-slice-read-o t) (node-arity-requires t) (node-add-args t) (node-sub-args t) (node-args-requires t) (node-operate-requires t) (node-same-length-2 t) (node-returns-4 t)
++args+node-spec = close μ-args μ-node (λ t. args-lts.spec (args-claims t) (args-at t) args.Post args-Inv-loop args-μ-loop (args-loop-holds t) (args-node-requires t) (args-same-length t) (args-returns t) (args-mul-ids t) (args-array-write-ids t) (args-add-k t) (args-loop-less t) (args-loop-again t) (args-same-length-2 t) (args-returns-2 t)) λ t. node-lts.spec (node-claims t) (node-at t) node.Post (node-sub-if1 t) (node-no-room-requires t) (node-returns t) (node-mul-if2 t) (node-shared-slice-read-if2 t) (node-leaf-requires t) (node-same-length t) (node-returns-2 t) (node-no-room-requires-2 t) (node-returns-3 t) (node-add-o t) (node-mul-o t) (node-shared-slice-read-o t) (node-arity-requires t) (node-add-args t) (node-sub-args t) (node-args-requires t) (node-operate-requires t) (node-same-length-2 t) (node-returns-4 t)
