@@ -15,10 +15,13 @@ use Rattle.model.specs.Update.Tree.{cell, number, constant, operator}
 use Rattle.model.specs.Update.Trees.{nil, cons}
 use Rattle.unroller.specs.Words.{none, Reader, times}
 use Rattle.unroller.specs.Decode.{node, operates, applied, expr}
-use Rattle.unroller.specs.CheckAnswers.{Leaf, Reads, Follows, ReadsAll}
-use Rattle.unroller.specs.declared.lists.Answer.{Answer}
-use Rattle.unroller.specs.declared.lists.Answer.the-variants.{Got, No}
+use Rattle.unroller.specs.CheckAnswers.{Answer, Got, No, answerOf, Leaf, Reads, Follows, ReadsAll}
 use Rattle.unroller.proofs.CheckWords.{at-three, few}
+
+-- the code's answer is a place
+pub answer-got : (n : ℕ) → 0 < n → answerOf n ≡ Got n
+answer-got zero h = absurd (omega arith)
+answer-got (suc n) h = refl
 
 -- leaves
 module _ (reads : ℕ → ℕ → Bool) (x y : ℕ) where
@@ -61,8 +64,8 @@ module _ (ops : List ℕ) (reads : ℕ → ℕ → Bool) (s : List ℕ) where
       node-leaf true (t, e, l) = (t, rw (at-three s at h) (l ops (operates ops reads left) (drop (at + 3) s)), omega arith)
       node-leaf false l = rw (at-three s at h) (l ops (operates ops reads left) (drop (at + 3) s))
 
-      pub node-leaf-yes : (r : Bool) → r ≡ true → Leaf reads (getD s at 0) (getD s (at + 1) 0) (getD s (at + 2) 0) r → Reads s at (expr ops reads left (drop at s)) (Got (at + 3))
-      node-leaf-yes true e l = node-leaf true l
+      pub node-leaf-yes : (r : Bool) → r ≡ true → Leaf reads (getD s at 0) (getD s (at + 1) 0) (getD s (at + 2) 0) r → Reads s at (expr ops reads left (drop at s)) (answerOf (at + 3))
+      node-leaf-yes true e l = rw (answer-got (at + 3) (omega arith)) (node-leaf true l)
       node-leaf-yes false e l = absurd (let z : _≡_ {A = ℕ} 0 1 = cc in omega arith)
 
       pub node-leaf-no : (r : Bool) → r ≡ false → Leaf reads (getD s at 0) (getD s (at + 1) 0) (getD s (at + 2) 0) r → Reads s at (expr ops reads left (drop at s)) No
@@ -104,16 +107,16 @@ module _ (ops : List ℕ) (reads : ℕ → ℕ → Bool) (s : List ℕ) where
 
   -- arguments
   module _ (left : ℕ) where
-    pub args-end : (at n : ℕ) → n ≡ 0 → ReadsAll s at (times nil cons (expr ops reads left) n (drop at s)) (Got at)
+    pub args-end : (at n : ℕ) → 0 < at → n ≡ 0 → ReadsAll s at (times nil cons (expr ops reads left) n (drop at s)) (answerOf at)
     unfolding times sizes
-    args-end at n e = (nil, rw e, omega arith)
+    args-end zero n h e = absurd (omega arith)
+    args-end (suc at) n h e = (nil, rw e, omega arith)
 
-    pub args-stop : (at n : ℕ) {q : Answer} → 0 < n → Reads s at (expr ops reads left (drop at s)) q → q ≡ No → ReadsAll s at (times nil cons (expr ops reads left) n (drop at s)) No
-    args-stop at n h q e = stop at n h (subst (λ (r : Answer). Reads s at (expr ops reads left (drop at s)) r) e q)
-      where
-        stop : (at n : ℕ) → 0 < n → Reads s at (expr ops reads left (drop at s)) No → times nil cons (expr ops reads left) n (drop at s) ≡ none
-        stop at zero h q = absurd (omega arith)
-        stop at (suc n) h q = unfold times in rw q
+    pub args-stop : (at n next : ℕ) → 0 < n → Reads s at (expr ops reads left (drop at s)) (answerOf next) → next ≡ 0 → ReadsAll s at (times nil cons (expr ops reads left) n (drop at s)) No
+    unfolding times
+    args-stop at n (suc next) h q e = absurd (omega arith)
+    args-stop at zero zero h q e = absurd (omega arith)
+    args-stop at (suc n) zero h q e = rw q
 
     step : (at n m next : ℕ) → n ≡ suc m → Reads s at (expr ops reads left (drop at s)) (Got next) → (r : Answer) →
         ReadsAll s next (times nil cons (expr ops reads left) m (drop next s)) r → ReadsAll s at (times nil cons (expr ops reads left) n (drop at s)) r
@@ -121,6 +124,6 @@ module _ (ops : List ℕ) (reads : ℕ → ℕ → Bool) (s : List ℕ) where
     step at n m next e (t, q, w) (Got l) (ts, z, v) = (cons t ts, rw (e, q, z), omega arith)
     step at n m next e (t, q, w) No z = rw (e, q, z)
 
-    pub args-step : (at n m next : ℕ) {q : Answer} → n ≡ suc m → Reads s at (expr ops reads left (drop at s)) q → q ≡ Got next → (r : Answer) →
+    pub args-step : (at n m next : ℕ) → n ≡ suc m → Reads s at (expr ops reads left (drop at s)) (answerOf next) → 0 < next → (r : Answer) →
         ReadsAll s next (times nil cons (expr ops reads left) m (drop next s)) r → ReadsAll s at (times nil cons (expr ops reads left) n (drop at s)) r
-    args-step at n m next e q f r z = step at n m next e (subst (λ (r : Answer). Reads s at (expr ops reads left (drop at s)) r) f q) r z
+    args-step at n m next e q h r z = step at n m next e (rw (answer-got next h) at q) r z

@@ -12,12 +12,11 @@ use Rattle.unroller.specs.Words.{Out, got, none, isGot, allZero}
 use Rattle.unroller.specs.Allowed.{mayWrite}
 use Rattle.unroller.specs.Decode.{mayRead, expr, update, updates}
 use Rattle.unroller.specs.State.{State, Small, readableIn, writableIn, spot}
-use Rattle.unroller.specs.CheckAnswers.{Reads, Updates, Follow}
-use Rattle.unroller.specs.declared.lists.Answer.{Answer}
-use Rattle.unroller.specs.declared.lists.Answer.the-variants.{Got, No}
+use Rattle.unroller.specs.CheckAnswers.{answerOf, Reads, Updates, Follow}
 use Rattle.unroller.specs.declared.lists.Moved.{Moved}
 use Rattle.unroller.specs.declared.lists.Moved.the-variants.{To, Stop}
 use Rattle.unroller.proofs.CheckWords.{at-three, few}
+use Rattle.unroller.proofs.CheckTrees.{answer-got}
 use Rattle.unroller.proofs.CheckCells.{reads-same, writes-same, state-marked, nodes-snoc}
 
 module _ (ops : List ℕ) (writes reads : ℕ → ℕ → Bool) (count : ℕ) (s : List ℕ) (at : ℕ) where
@@ -42,10 +41,10 @@ module _ (ops : List ℕ) (writes reads : ℕ → ℕ → Bool) (count : ℕ) (s
       up-target w = rw (at-three s at h, e, w)
 
       module _ (w : writes (getD s (at + 1) 0) (getD s (at + 2) 0) ≡ true) where
-        pub up-expr : (q : Answer) → q ≡ No → Reads s (at + 3) (expr ops reads 12 (drop (at + 3) s)) q → update ops writes reads count (drop at s) ≡ none
+        pub up-expr : (next : ℕ) → next ≡ 0 → Reads s (at + 3) (expr ops reads 12 (drop (at + 3) s)) (answerOf next) → update ops writes reads count (drop at s) ≡ none
         unfolding update
-        up-expr No f r = rw (at-three s at h, e, w, r)
-        up-expr (Got n) f r = absurd (let z : _≡_ {A = ℕ} 0 1 = cc in omega arith)
+        up-expr zero f r = rw (at-three s at h, e, w, r)
+        up-expr (suc n) f r = absurd (omega arith)
 
         module _ (t : Tree) (next : ℕ) (r : expr ops reads 12 (drop (at + 3) s) ≡ got t (drop next s)) where
           pub up-nodes : 8192 < count + size t → update ops writes reads count (drop at s) ≡ none
@@ -57,9 +56,9 @@ module _ (ops : List ℕ) (writes reads : ℕ → ℕ → Bool) (count : ℕ) (s
           up-all l = rw (at-three s at h, e, w, r, le-leb (count + size t) 8192 l)
 
 -- the tree that was read, and its size from its words
-pub read-tree : (s : List ℕ) (from : ℕ) (o : Out Tree) (q : Answer) (next : ℕ) → q ≡ Got next → Reads s from o q →
+pub read-tree : (s : List ℕ) (from : ℕ) (o : Out Tree) (next : ℕ) → 0 < next → Reads s from o (answerOf next) →
     (t : Tree) × (o ≡ got t (drop next s)) × (next ≡ from + 3 * size t)
-read-tree s from o q next e r = subst (λ (q : Answer). Reads s from o q) e r
+read-tree s from o next h r = rw (answer-got next h) at r
 
 pub third : (from next n : ℕ) → next ≡ from + 3 * n → (next - from) / 3 ≡ n
 third from next n e = omega arith

@@ -1,5 +1,5 @@
 -- What the code answers of what a reader does at a place of the words.
-use Prim.Native.Nat.{ℕ, _+_, _*_, _≤_}
+use Prim.Native.Nat.{ℕ, zero, suc, _+_, _*_, _≤_}
 use mathlib.Core.Path.{_≡_}
 use mathlib.Core.List.{List, [], _∷_}
 use mathlib.Core.Bool.{Bool, true, false}
@@ -15,8 +15,6 @@ use Rattle.unroller.specs.Unroll as Unroll
 use Rattle.unroller.specs.State.{State, Small, readableIn, writableIn, spot}
 use Rattle.unroller.specs.declared.lists.Checked.{Checked}
 use Rattle.unroller.specs.declared.lists.Checked.the-variants as checked
-use Rattle.unroller.specs.declared.lists.Answer.{Answer}
-use Rattle.unroller.specs.declared.lists.Answer.the-variants.{Got, No}
 use Rattle.unroller.specs.declared.lists.Moved.{Moved}
 use Rattle.unroller.specs.declared.lists.Moved.the-variants.{To, Stop}
 use Rattle.unroller.specs.declared.lists.Declared.{Declared}
@@ -67,6 +65,16 @@ Leaf reads code x y true =
     (t : Tree) × (size t ≡ 1) × ((ops : List ℕ) (f : ℕ → Reader Tree) (rest : List ℕ) → node ops reads f (code ∷ x ∷ y ∷ rest) ≡ got t rest)
 Leaf reads code x y false =
     (ops : List ℕ) (f : ℕ → Reader Tree) (rest : List ℕ) → node ops reads f (code ∷ x ∷ y ∷ rest) ≡ none
+
+-- what reading an expression finds: the place past it, or nothing. The code answers the place itself, or 0: an expression takes three
+-- words or more, so no place past one is 0
+pub data Answer : Type 0 where
+  Got : ℕ → Answer
+  No : Answer
+
+abbrev pub answerOf : ℕ → Answer
+answerOf zero = No
+answerOf (suc n) = Got (suc n)
 
 -- a tree whose words begin at `from`, all of them, or behind its first record
 abbrev pub Reads : List ℕ → ℕ → Out Tree → Answer → Type 0

@@ -10,19 +10,13 @@ ghost use Rattle.unroller.specs.Words.{allZero, times};
 ghost use Rattle.unroller.specs.Decode.{expr, operates, accepted};
 ghost use Rattle.unroller.specs.Unroll.{checkReply};
 ghost use Rattle.unroller.specs.State.{readableIn, writableIn, spot, Filled, stateOf};
-ghost use Rattle.unroller.specs.CheckAnswers.{checkedSays, Either, Zeros, Arities, factorOf, Declares, Arrays, Header, Leaf, Reads, Follows, ReadsAll, Updates, Follow};
+ghost use Rattle.unroller.specs.CheckAnswers.{checkedSays, Either, Zeros, Arities, factorOf, Declares, Arrays, Header, Leaf, answerOf, Reads, Follows, ReadsAll, Updates, Follow};
 
 // Refused: 26. Short: 25.
 pub enum Checked {
     Accepted,
     Refused,
     Short,
-}
-
-// What reading an expression finds: the place past it, or nothing.
-enum Answer {
-    Got(usize),
-    No,
 }
 
 // What reading an update finds: the place past it, and the nodes with its own; or nothing.
@@ -311,16 +305,17 @@ fn leaf(state: &[u8], code: u32, x: u32, y: u32) -> bool
     }
 }
 
-// A node and all that belongs to it; operators may nest `left` deep.
-fn node(list: &[u32], at: usize, ops: &[u32], state: &[u8], left: usize) -> Answer
+// A node and all that belongs to it; operators may nest `left` deep. The answer is the place past it, or 0 for none: a record takes
+// three words, so no place past one is 0. An enum went through memory from call to call, for most of the time of a check.
+fn node(list: &[u32], at: usize, ops: &[u32], state: &[u8], left: usize) -> usize
     requires { ⌜ length (now state) ≡ 32768 ⌝ }
-    ensures { λ r. ⌜ Reads (now (list .entry)) at (expr (now (ops .entry)) (readableIn (now (state .entry))) left (drop at (now (list .entry)))) r ⌝ }
+    ensures { λ r. ⌜ Reads (now (list .entry)) at (expr (now (ops .entry)) (readableIn (now (state .entry))) left (drop at (now (list .entry)))) (answerOf r) ⌝ }
 {
     if list.len() < 3 {
-        return Answer::No;
+        return 0;
     }
     if list.len() - 3 < at {
-        return Answer::No;
+        return 0;
     }
     let code = list[at];
     let x = list[at + 1];
@@ -329,48 +324,45 @@ fn node(list: &[u32], at: usize, ops: &[u32], state: &[u8], left: usize) -> Answ
         if y == 0 {
             return operator(list, at + 3, ops, state, left, x);
         }
-        return Answer::No;
+        return 0;
     }
     if leaf(state, code, x, y) {
-        return Answer::Got(at + 3);
+        return at + 3;
     }
-    Answer::No
+    0
 }
 
 // What follows the record of the operator `o`.
-fn operator(list: &[u32], at: usize, ops: &[u32], state: &[u8], left: usize, o: u32) -> Answer
-    requires { ⌜ length (now state) ≡ 32768 ⌝ }
-    ensures { λ r. ⌜ Follows (now (list .entry)) at (operates (now (ops .entry)) (readableIn (now (state .entry))) left o (drop at (now (list .entry)))) r ⌝ }
+fn operator(list: &[u32], at: usize, ops: &[u32], state: &[u8], left: usize, o: u32) -> usize
+    requires { ⌜ (length (now state) ≡ 32768) × (0 < at) ⌝ }
+    ensures { λ r. ⌜ Follows (now (list .entry)) at (operates (now (ops .entry)) (readableIn (now (state .entry))) left o (drop at (now (list .entry)))) (answerOf r) ⌝ }
 {
     if left == 0 {
-        return Answer::No;
+        return 0;
     }
     let k = wide(o);
     if k < ops.len() {
         return args(list, at, ops, state, left - 1, ops[k]);
     }
-    Answer::No
+    0
 }
 
-// The n arguments of an operator.
-fn args(list: &[u32], at: usize, ops: &[u32], state: &[u8], left: usize, n: u32) -> Answer
-    requires { ⌜ length (now state) ≡ 32768 ⌝ }
-    ensures { λ r. ⌜ ReadsAll (now (list .entry)) at (times nil cons (expr (now (ops .entry)) (readableIn (now (state .entry))) left) n (drop at (now (list .entry)))) r ⌝ }
+// The n arguments of an operator. Where n is 0 the answer is `at`, so that is not 0.
+fn args(list: &[u32], at: usize, ops: &[u32], state: &[u8], left: usize, n: u32) -> usize
+    requires { ⌜ (length (now state) ≡ 32768) × (0 < at) ⌝ }
+    ensures { λ r. ⌜ ReadsAll (now (list .entry)) at (times nil cons (expr (now (ops .entry)) (readableIn (now (state .entry))) left) n (drop at (now (list .entry)))) (answerOf r) ⌝ }
 {
     let mut place = at;
     let mut more = n;
     while 0 < more {
-        match node(list, place, ops, state, left) {
-            Answer::No => {
-                return Answer::No;
-            }
-            Answer::Got(next) => {
-                place = next;
-                more -= 1;
-            }
+        let next = node(list, place, ops, state, left);
+        if next == 0 {
+            return 0;
         }
+        place = next;
+        more -= 1;
     }
-    Answer::Got(place)
+    place
 }
 
 // The cell was written: from now on it may be read.
@@ -402,17 +394,16 @@ fn update_at(list: &[u32], at: usize, ops: &[u32], state: &mut [u8], count: usiz
     if !writable(state, x, y) {
         return Moved::Stop;
     }
-    match node(list, at + 3, ops, state, 12) {
-        Answer::No => Moved::Stop,
-        Answer::Got(next) => {
-            let size = (next - (at + 3)) / 3;
-            if 8192 - count < size {
-                return Moved::Stop;
-            }
-            mark(state, x, y);
-            Moved::To(next, count + size)
-        }
+    let next = node(list, at + 3, ops, state, 12);
+    if next == 0 {
+        return Moved::Stop;
     }
+    let size = (next - (at + 3)) / 3;
+    if 8192 - count < size {
+        return Moved::Stop;
+    }
+    mark(state, x, y);
+    Moved::To(next, count + size)
 }
 
 // The updates from word 98 on, and the zeros behind them.

@@ -1,4 +1,4 @@
--- `args`, `node` and `operator` meet their contracts. The three call each other; three times the levels left, and the place in the turn, falls. The loop of `args` keeps: what the arguments left answer, all answer.
+-- `args`, `node` and `operator` meet their contracts. The three call each other; three times the levels left, and the place in the turn, falls. The loop of `args` keeps: the place is not 0, and what the arguments left answer, all answer.
 use borrow.Author.Needs.{needs}
 use native.Mathlib.Omega.{arith}
 use Prim.Native.Nat.{ℕ, _+_, _-_, _*_, _<_}
@@ -7,9 +7,7 @@ use Rattle.model.specs.Update.Trees.{nil, cons}
 use Rattle.unroller.specs.Words.{times}
 use Rattle.unroller.specs.Decode.{expr}
 use Rattle.unroller.specs.State.{readableIn}
-use Rattle.unroller.specs.CheckAnswers.{ReadsAll}
-use Rattle.unroller.specs.declared.lists.Answer.{Answer}
-use Rattle.unroller.specs.declared.lists.Answer.the-variants.{Got, No}
+use Rattle.unroller.specs.CheckAnswers.{Answer, No, answerOf, ReadsAll}
 use Rattle.unroller.proofs.CheckTrees.{node-short, node-leaf-yes, node-leaf-no, node-operator, node-operator-bad, operator-none, operator-unknown, operator-some, args-end, args-stop, args-step}
 use borrow.Fn.Kinds.{In}
 use borrow.Fn.PlainCycle.{Measures, is, falls, and}
@@ -56,8 +54,8 @@ operator-below t = and 3 operator-kinds.ps (falls 3 operator-kinds.ps _<_ μ-ope
 
 abbrev args-Inv-loop : args-lts.InvT-loop
 args-Inv-loop list at ops state left n place₀ more₀ place more =
-    (r : Answer) → ReadsAll list place (times nil cons (expr ops (readableIn state) left) more (drop place list)) r →
-    ReadsAll list at (times nil cons (expr ops (readableIn state) left) n (drop at list)) r
+    (0 < place) × ((r : Answer) → ReadsAll list place (times nil cons (expr ops (readableIn state) left) more (drop place list)) r →
+    ReadsAll list at (times nil cons (expr ops (readableIn state) left) n (drop at list)) r)
 
 abbrev args-μ-loop : args-lts.MeasureT-loop
 args-μ-loop list at ops state left n place₀ more₀ place more = more
@@ -73,27 +71,21 @@ operator-claims t = (wide-reads.Asked, wide-reads.Learnt, args-below t, args.Pos
 
 module _ (t : ℕ) where
   args-loop-holds : args-lts.Need-loop-holds (args-claims t) (args-at t) args.Post args-Inv-loop args-μ-loop
-  args-loop-holds c = λ r z. z
+  args-loop-holds c = (omega arith, λ r z. z)
 
   args-node-requires : args-lts.Need-node-requires (args-claims t) (args-at t) args.Post args-Inv-loop args-μ-loop
   args-node-requires c κs = omega arith
 
-  args-enum-told : args-lts.Need-enum-told (args-claims t) (args-at t) args.Post args-Inv-loop args-μ-loop
-  args-enum-told c = search needs
-
   args-returns : args-lts.Need-returns (args-claims t) (args-at t) args.Post args-Inv-loop args-μ-loop
   args-returns c =
-      let i = c .before .before .before .before .loop .inv in
-      let a = c .before .before .before .before .before .before .before .before .args in
+      let i = c .before .before .before .loop .inv in
+      let a = c .before .before .before .before .before .before .before .args in
       let s = a .list .now in
       let o = a .ops .now in
       let f = readableIn (a .state .now) in
-      let p = c .before .before .before .before .loop .place in
-      let n = c .before .before .before .before .loop .more in
-      i No (args-stop o f s (a .left) p n (c .before .before .before .loop-test .taken) (c .before .before .node .ensures) (c .enum-told .given .1))
-
-  args-enum-known-next : args-lts.Need-enum-known-next (args-claims t) (args-at t) args.Post args-Inv-loop args-μ-loop
-  args-enum-known-next c = search needs
+      let p = c .before .before .before .loop .place in
+      let n = c .before .before .before .loop .more in
+      i .1 No (args-stop o f s (a .left) p n (c .before .node .result) (c .before .before .loop-test .taken) (c .before .node .ensures) (c .if1 .taken))
 
   args-sub-more : args-lts.Need-sub-more (args-claims t) (args-at t) args.Post args-Inv-loop args-μ-loop
   args-sub-more c = omega arith
@@ -103,14 +95,14 @@ module _ (t : ℕ) where
 
   args-loop-again : args-lts.Need-loop-again (args-claims t) (args-at t) args.Post args-Inv-loop args-μ-loop
   args-loop-again c =
-      let i = c .before .before .before .before .before .loop .inv in
-      let a = c .before .before .before .before .before .before .before .before .before .args in
+      let i = c .before .before .before .loop .inv in
+      let a = c .before .before .before .before .before .before .before .args in
       let s = a .list .now in
       let o = a .ops .now in
       let f = readableIn (a .state .now) in
-      let p = c .before .before .before .before .before .loop .place in
-      let n = c .before .before .before .before .before .loop .more in
-      λ r z. i r (args-step o f s (a .left) p n (n - 1) _ (omega arith) (c .before .before .before .node .ensures) (c .before .next .given .1) r z)
+      let p = c .before .before .before .loop .place in
+      let n = c .before .before .before .loop .more in
+      (omega arith, λ r z. i .1 r (args-step o f s (a .left) p n (n - 1) (c .before .node .result) (omega arith) (c .before .node .ensures) (omega arith) r z))
 
   args-returns-2 : args-lts.Need-returns-2 (args-claims t) (args-at t) args.Post args-Inv-loop args-μ-loop
   args-returns-2 c =
@@ -121,7 +113,7 @@ module _ (t : ℕ) where
       let f = readableIn (a .state .now) in
       let p = c .before .loop .place in
       let n = c .before .loop .more in
-      i (Got p) (args-end o f s (a .left) p n (omega arith))
+      i .1 (answerOf p) (args-end o f s (a .left) p n (i .0) (omega arith))
 
   node-returns : node-lts.Need-returns (node-claims t) (node-at t) node.Post
   node-returns c =
@@ -178,7 +170,7 @@ module _ (t : ℕ) where
       let s = a .list .now in
       let o = a .ops .now in
       let f = readableIn (a .state .now) in
-      node-operator o f s (a .at) (a .left) (omega arith) (c .operator .result) (c .before .before .if3 .taken) (c .before .if4 .taken) (c .operator .ensures)
+      node-operator o f s (a .at) (a .left) (omega arith) (answerOf (c .operator .result)) (c .before .before .if3 .taken) (c .before .if4 .taken) (c .operator .ensures)
 
   node-returns-4 : node-lts.Need-returns-4 (node-claims t) (node-at t) node.Post
   node-returns-4 c =
@@ -191,8 +183,8 @@ module _ (t : ℕ) where
   node-leaf-requires : node-lts.Need-leaf-requires (node-claims t) (node-at t) node.Post
   node-leaf-requires c κs = search needs
 
-  node-add-t19 : node-lts.Need-add-t19 (node-claims t) (node-at t) node.Post
-  node-add-t19 c = search needs
+  node-add-result : node-lts.Need-add-result (node-claims t) (node-at t) node.Post
+  node-add-result c = search needs
 
   node-returns-5 : node-lts.Need-returns-5 (node-claims t) (node-at t) node.Post
   node-returns-5 c =
@@ -239,7 +231,7 @@ module _ (t : ℕ) where
       let s = a .list .now in
       let o = a .ops .now in
       let f = readableIn (a .state .now) in
-      operator-some o f s (a .at) (a .left) (a .left - 1) (c .before .before .before .wide .result) (a .o) (c .args2 .result) (omega arith) (c .before .before .before .wide .ensures) (c .before .before .if2 .taken) (c .args2 .ensures)
+      operator-some o f s (a .at) (a .left) (a .left - 1) (c .before .before .before .wide .result) (a .o) (answerOf (c .args2 .result)) (omega arith) (c .before .before .before .wide .ensures) (c .before .before .if2 .taken) (c .args2 .ensures)
 
   operator-returns-3 : operator-lts.Need-returns-3 (operator-claims t) (operator-at t) operator.Post
   operator-returns-3 c =
@@ -250,4 +242,4 @@ module _ (t : ℕ) where
       operator-unknown o f s (a .at) (a .left) (a .o) (omega arith)
 
 pub +args+node+operator-spec : {M : Type 1} → statement M
-+args+node+operator-spec = close μ-args μ-node μ-operator (λ t. args-lts.spec (args-claims t) (args-at t) args.Post args-Inv-loop args-μ-loop (args-loop-holds t) (args-node-requires t) (args-enum-told t) (args-returns t) (args-enum-known-next t) (args-sub-more t) (args-loop-less t) (args-loop-again t) (args-returns-2 t)) (λ t. node-lts.spec (node-claims t) (node-at t) node.Post (node-returns t) (node-sub-if2 t) (node-returns-2 t) (node-mul-code t) (node-shared-slice-read-code t) (node-add-x t) (node-mul-x t) (node-shared-slice-read-x t) (node-add-y t) (node-mul-y t) (node-shared-slice-read-y t) (node-add-operator t) (node-operator-requires t) (node-returns-3 t) (node-returns-4 t) (node-leaf-requires t) (node-add-t19 t) (node-returns-5 t) (node-returns-6 t)) λ t. operator-lts.spec (operator-claims t) (operator-at t) operator.Post (operator-returns t) (operator-wide-requires t) (operator-sub-args t) (operator-mul-args t) (operator-shared-slice-read-args t) (operator-args-requires t) (operator-returns-2 t) (operator-returns-3 t)
++args+node+operator-spec = close μ-args μ-node μ-operator (λ t. args-lts.spec (args-claims t) (args-at t) args.Post args-Inv-loop args-μ-loop (args-loop-holds t) (args-node-requires t) (args-returns t) (args-sub-more t) (args-loop-less t) (args-loop-again t) (args-returns-2 t)) (λ t. node-lts.spec (node-claims t) (node-at t) node.Post (node-returns t) (node-sub-if2 t) (node-returns-2 t) (node-mul-code t) (node-shared-slice-read-code t) (node-add-x t) (node-mul-x t) (node-shared-slice-read-x t) (node-add-y t) (node-mul-y t) (node-shared-slice-read-y t) (node-add-operator t) (node-operator-requires t) (node-returns-3 t) (node-returns-4 t) (node-leaf-requires t) (node-add-result t) (node-returns-5 t) (node-returns-6 t)) λ t. operator-lts.spec (operator-claims t) (operator-at t) operator.Post (operator-returns t) (operator-wide-requires t) (operator-sub-args t) (operator-mul-args t) (operator-shared-slice-read-args t) (operator-args-requires t) (operator-returns-2 t) (operator-returns-3 t)

@@ -83,48 +83,33 @@ add-node c = search needs
 node-requires : tie.Need-node-requires
 node-requires c κs = search needs
 
-enum-told : tie.Need-enum-told
-enum-told c = search needs
+same-length-2 : tie.Need-same-length-2
+same-length-2 c = search needs
 
-enum-known-next : tie.Need-enum-known-next
-enum-known-next c = search needs
+returns-5 : tie.Need-returns-5
+returns-5 c =
+    let a = c .before .before .before .before .before .before .before .before .before .before .before .before .before .before .before .args in
+    let s = a .list .now in
+    let o = a .ops .now in
+    let z = a .state .now in
+    up-expr o (writableIn z) (readableIn z) (a .count) s (a .at) (omega arith) (c .before .before .before .before .before .before .if3 .left) (sym (c .before .before .before .before .writable .ensures) ∙ not-false (c .before .before .before .before .writable .result) (c .before .before .before .if4 .left)) (c .before .node .result) (c .if5 .taken) (c .before .node .ensures)
 
 add-size : tie.Need-add-size
 add-size c = omega arith
 
 sub-size : tie.Need-sub-size
 sub-size c =
-    let a = c .before .before .before .before .before .before .before .before .before .before .before .before .before .before .before .before .before .args in
+    let a = c .before .before .before .before .before .before .before .before .before .before .before .before .before .before .before .args in
     let s = a .list .now in
     let o = a .ops .now in
     let z = a .state .now in
-    let x = c .before .next .given .0 .0 in
-    let q = read-tree s (a .at + 3) (expr o (readableIn z) 12 (drop (a .at + 3) s)) (c .before .before .before .node .result) x (c .before .next .given .1) (c .before .before .before .node .ensures) in
+    let x = c .before .node .result in
+    let q = read-tree s (a .at + 3) (expr o (readableIn z) 12 (drop (a .at + 3) s)) x (omega arith) (c .before .node .ensures) in
     let d = third (a .at + 3) x (size (q .0)) (q .2) in
     omega arith
 
-sub-if5 : tie.Need-sub-if5
-sub-if5 c = omega arith
-
-same-length-2 : tie.Need-same-length-2
-same-length-2 c = search needs
-
-returns-5 : tie.Need-returns-5
-returns-5 c =
-    let a = c .before .before .before .before .before .before .before .before .before .before .before .before .before .before .before .before .before .before .args in
-    let s = a .list .now in
-    let o = a .ops .now in
-    let z = a .state .now in
-    let x = c .before .before .next .given .0 .0 in
-    let q = read-tree s (a .at + 3) (expr o (readableIn z) 12 (drop (a .at + 3) s)) (c .before .before .before .before .node .result) x (c .before .before .next .given .1) (c .before .before .before .before .node .ensures) in
-    let d = third (a .at + 3) x (size (q .0)) (q .2) in
-    up-nodes o (writableIn z) (readableIn z) (a .count) s (a .at) (omega arith) (c .before .before .before .before .before .before .before .before .before .if3 .left) (sym (c .before .before .before .before .before .before .before .writable .ensures) ∙ not-false (c .before .before .before .before .before .before .before .writable .result) (c .before .before .before .before .before .before .if4 .left)) (q .0) x (q .1) (omega arith)
-
-mark-requires : tie.Need-mark-requires
-mark-requires c κs = (sym (c .before .before .before .before .before .before .before .before .writable .ensures) ∙ not-false (c .before .before .before .before .before .before .before .before .writable .result) (c .before .before .before .before .before .before .before .if4 .left), c .before .before .before .before .before .before .before .before .before .before .before .before .before .before .before .before .before .before .before .pre .0)
-
-add-t26 : tie.Need-add-t26
-add-t26 c = omega arith
+sub-if6 : tie.Need-sub-if6
+sub-if6 c = omega arith
 
 same-length-3 : tie.Need-same-length-3
 same-length-3 c = search needs
@@ -135,21 +120,30 @@ returns-6 c =
     let s = a .list .now in
     let o = a .ops .now in
     let z = a .state .now in
-    up-expr o (writableIn z) (readableIn z) (a .count) s (a .at) (omega arith) (c .before .before .before .before .before .before .before .if3 .left) (sym (c .before .before .before .before .before .writable .ensures) ∙ not-false (c .before .before .before .before .before .writable .result) (c .before .before .before .before .if4 .left)) (c .before .before .node .result) (c .enum-told .given .1) (c .before .before .node .ensures)
+    let x = c .before .before .node .result in
+    let q = read-tree s (a .at + 3) (expr o (readableIn z) 12 (drop (a .at + 3) s)) x (omega arith) (c .before .before .node .ensures) in
+    let d = third (a .at + 3) x (size (q .0)) (q .2) in
+    up-nodes o (writableIn z) (readableIn z) (a .count) s (a .at) (omega arith) (c .before .before .before .before .before .before .before .if3 .left) (sym (c .before .before .before .before .before .writable .ensures) ∙ not-false (c .before .before .before .before .before .writable .result) (c .before .before .before .before .if4 .left)) (q .0) x (q .1) (omega arith)
+
+mark-requires : tie.Need-mark-requires
+mark-requires c κs = (sym (c .before .before .before .before .before .before .writable .ensures) ∙ not-false (c .before .before .before .before .before .before .writable .result) (c .before .before .before .before .before .if4 .left), c .before .before .before .before .before .before .before .before .before .before .before .before .before .before .before .before .before .pre .0)
+
+add-t11 : tie.Need-add-t11
+add-t11 c = omega arith
 
 same-length-4 : tie.Need-same-length-4
 same-length-4 c = search needs
 
 returns-7 : tie.Need-returns-7
 returns-7 c =
-    let a = c .before .before .before .before .before .before .before .before .before .before .before .before .before .before .before .before .before .before .before .before .before .before .args in
+    let a = c .before .before .before .before .before .before .before .before .before .before .before .before .before .before .before .before .before .before .before .before .args in
     let s = a .list .now in
     let o = a .ops .now in
     let z = a .state .now in
-    let x = c .before .before .before .before .before .before .next .given .0 .0 in
-    let q = read-tree s (a .at + 3) (expr o (readableIn z) 12 (drop (a .at + 3) s)) (c .before .before .before .before .before .before .before .before .node .result) x (c .before .before .before .before .before .before .next .given .1) (c .before .before .before .before .before .before .before .before .node .ensures) in
+    let x = c .before .before .before .before .before .before .node .result in
+    let q = read-tree s (a .at + 3) (expr o (readableIn z) 12 (drop (a .at + 3) s)) x (omega arith) (c .before .before .before .before .before .before .node .ensures) in
     let d = third (a .at + 3) x (size (q .0)) (q .2) in
-    (record { array = getD s (a .at + 1) 0; target = getD s (a .at + 2) 0; source = q .0 }, up-all o (writableIn z) (readableIn z) (a .count) s (a .at) (omega arith) (c .before .before .before .before .before .before .before .before .before .before .before .before .before .if3 .left) (sym (c .before .before .before .before .before .before .before .before .before .before .before .writable .ensures) ∙ not-false (c .before .before .before .before .before .before .before .before .before .before .before .writable .result) (c .before .before .before .before .before .before .before .before .before .before .if4 .left)) (q .0) x (q .1) (omega arith), omega arith, omega arith, sym (c .before .before .before .before .before .before .before .before .before .before .before .writable .ensures) ∙ not-false (c .before .before .before .before .before .before .before .before .before .before .before .writable .result) (c .before .before .before .before .before .before .before .before .before .before .if4 .left), c .before .before .mark .ensures)
+    (record { array = getD s (a .at + 1) 0; target = getD s (a .at + 2) 0; source = q .0 }, up-all o (writableIn z) (readableIn z) (a .count) s (a .at) (omega arith) (c .before .before .before .before .before .before .before .before .before .before .before .if3 .left) (sym (c .before .before .before .before .before .before .before .before .before .writable .ensures) ∙ not-false (c .before .before .before .before .before .before .before .before .before .writable .result) (c .before .before .before .before .before .before .before .before .if4 .left)) (q .0) x (q .1) (omega arith), omega arith, omega arith, sym (c .before .before .before .before .before .before .before .before .before .writable .ensures) ∙ not-false (c .before .before .before .before .before .before .before .before .before .writable .result) (c .before .before .before .before .before .before .before .before .if4 .left), c .before .before .mark .ensures)
 
 pub update-at-spec : {M : Type 1} → statement M
-update-at-spec = tie.close (tie.spec returns sub-if2 returns-2 mul-code shared-slice-read-code add-x mul-x shared-slice-read-x add-y mul-y shared-slice-read-y returns-3 writable-requires same-length returns-4 add-node node-requires enum-told enum-known-next add-size sub-size sub-if5 same-length-2 returns-5 mark-requires add-t26 same-length-3 returns-6 same-length-4 returns-7)
+update-at-spec = tie.close (tie.spec returns sub-if2 returns-2 mul-code shared-slice-read-code add-x mul-x shared-slice-read-x add-y mul-y shared-slice-read-y returns-3 writable-requires same-length returns-4 add-node node-requires same-length-2 returns-5 add-size sub-size sub-if6 same-length-3 returns-6 mark-requires add-t11 same-length-4 returns-7)
