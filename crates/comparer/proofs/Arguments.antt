@@ -19,7 +19,7 @@ use Rattle.terms.specs.Stored.{In, Ref, Args, Means, Outcome, full, fine, Puts}
 use Rattle.terms.proofs.Sets.{grown-none, grown-ref, over-more, after-grown, same-set, is-full, is-fine}
 use Rattle.unroller.specs.Stands.{many, TreeAt, TreesAt}
 use Rattle.comparer.specs.Meaning.{Content, valueOf, valuesOf, free}
-use Rattle.comparer.specs.Work.{Operators, Arity, Operates, Ready, worked, Works, WorksAll}
+use Rattle.comparer.specs.Work.{Operators, Arity, Operates, Holding, Ready, worked, Works, WorksAll}
 use Rattle.comparer.proofs.Slots.{cells-on, outcome-on}
 
 -- ---- places
@@ -92,41 +92,42 @@ first-last : (v : Tree) (l : List Tree) (x : Tree) → In x (v ∷ l) → In x (
 first-last v l x i = ⊎-elim (λ (j : x ≡ v). Memᴰ·append-right l (List·Memᴰ·head j)) (λ (j : In x l). Memᴰ·append-left (v ∷ []) j) (List·Memᴰ·cases-cons i)
 
 -- ---- node
--- what is said of a value's place and id
-abbrev pub Got : ℕ → ℕ → ℕ → Tree → List Tree → Type 0
-Got at to id v us = (at ≡ to) × Ref us id v
+-- what is said of a value's place and id, and of the cells
+abbrev pub Got : List ℕ → List ℕ → List ℕ → Content Tree → ℕ → ℕ → ℕ → Tree → List Tree → Type 0
+Got table bases cells h at to id v us = (at ≡ to) × Ref us id v × Holding table bases cells us h
 
 module _ (table list : List ℕ) (left at : ℕ) (cells m : List ℕ) (count : ℕ) where
   -- no tree stands here
-  pub node-short : length list < at + 3 → (at' count' id : ℕ) (m' : List ℕ) → Works table list left at cells m count at' count' id m'
+  pub node-short : length list < at + 3 → (at' count' id : ℕ) (cells' m' : List ℕ) → Works table list left at cells m count at' count' id cells' m'
   unfolding Works
-  node-short l at' count' id m' arities bases t to ts h O T R = absurd (omega (arith, tree-room arities bases list t left at to T))
+  node-short l at' count' id cells' m' arities bases t to ts h O T R = absurd (omega (arith, tree-room arities bases list t left at to T))
 
   module _ (e : getD list at 0 ≡ 17) where
     -- an operator stands here: it is enough to show of it what is to be shown
-    by-operator : (at' count' id : ℕ) (m' : List ℕ)
+    by-operator : (at' count' id : ℕ) (cells' m' : List ℕ)
         → ((arities bases : List ℕ) (o : ℕ) (us : Trees) (to : ℕ) (ts : List Tree) (h : Content Tree) → Operators list arities
         → TreeAt arities bases list (operator o us) left at to → Ready table bases cells m count ts h
-        → Outcome ts (operator o (worked us h) ∷ partsOf (worked us h)) m' count' (Got at' to id (operator o (worked us h))))
-        → Works table list left at cells m count at' count' id m'
+        → Outcome ts (operator o (worked us h) ∷ partsOf (worked us h)) m' count' (Got table bases cells' h at' to id (operator o (worked us h))))
+        → Works table list left at cells m count at' count' id cells' m'
     unfolding Works TreeAt valueOf parts
-    by-operator at' count' id m' f arities bases (cell a c) to ts h O T R = absurd (omega (arith, T .0 .code))
-    by-operator at' count' id m' f arities bases (number z) to ts h O T R = absurd (omega (arith, T .0 .code))
-    by-operator at' count' id m' f arities bases (constant n) to ts h O T R = absurd (omega (arith, T .0 .code))
-    by-operator at' count' id m' f arities bases (operator o us) to ts h O T R = f arities bases o us to ts h O T R
+    by-operator at' count' id cells' m' f arities bases (cell a c) to ts h O T R = absurd (omega (arith, T .0 .code))
+    by-operator at' count' id cells' m' f arities bases (number z) to ts h O T R = absurd (omega (arith, T .0 .code))
+    by-operator at' count' id cells' m' f arities bases (constant n) to ts h O T R = absurd (omega (arith, T .0 .code))
+    by-operator at' count' id cells' m' f arities bases (operator o us) to ts h O T R = f arities bases o us to ts h O T R
 
-    pub node-deep : left ≡ 0 → (at' count' id : ℕ) (m' : List ℕ) → Works table list left at cells m count at' count' id m'
+    pub node-deep : left ≡ 0 → (at' count' id : ℕ) (cells' m' : List ℕ) → Works table list left at cells m count at' count' id cells' m'
     unfolding TreeAt
-    node-deep l at' count' id m' = by-operator at' count' id m' (λ arities bases o us to ts h O T R. absurd (omega (arith, T .4 .1)))
+    node-deep l at' count' id cells' m' = by-operator at' count' id cells' m' (λ arities bases o us to ts h O T R. absurd (omega (arith, T .4 .1)))
 
-    module _ (n : ℕ) (q : Arity list (getD list (at + 1) 0) n) (at1 count1 : ℕ) (ids1 m1 : List ℕ)
-        (A : WorksAll table list (left - 1) (at + 3) cells m count 0 n none4 at1 count1 ids1 m1) where
-      abbrev GotAll : ℕ → Trees → List Tree → Type 0
-      GotAll to ws vs = (at1 ≡ to) × ((j : ℕ) → j < 0 → getD ids1 j 0 ≡ getD none4 j 0) × Args vs ids1 0 ws
+    module _ (n : ℕ) (q : Arity list (getD list (at + 1) 0) n) (at1 count1 : ℕ) (ids1 cells1 m1 : List ℕ)
+        (A : WorksAll table list (left - 1) (at + 3) cells m count 0 n none4 at1 count1 ids1 cells1 m1) where
+      abbrev GotAll : List ℕ → Content Tree → ℕ → Trees → List Tree → Type 0
+      GotAll bases h to ws vs =
+          (at1 ≡ to) × ((j : ℕ) → j < 0 → getD ids1 j 0 ≡ getD none4 j 0) × Args vs ids1 0 ws × Holding table bases cells1 vs h
 
       args-of : (arities bases : List ℕ) (o : ℕ) (us : Trees) (to : ℕ) (ts : List Tree) (h : Content Tree) → Operators list arities
           → TreeAt arities bases list (operator o us) left at to → Ready table bases cells m count ts h
-          → Outcome ts (partsOf (worked us h)) m1 count1 (GotAll to (worked us h))
+          → Outcome ts (partsOf (worked us h)) m1 count1 (GotAll bases h to (worked us h))
       unfolding WorksAll TreeAt
       args-of arities bases o us to ts h O T R =
           let d : left - 1 ≡ T .4 .0 = omega (arith, T .4 .1) in
@@ -137,38 +138,40 @@ module _ (table list : List ℕ) (left at : ℕ) (cells m : List ℕ) (count : �
           A arities bases us to ts h O (subst (λ (x : ℕ). TreesAt arities bases list us x (at + 3) to) (sym d) (T .4 .2)) (omega arith)
           refl (λ j i. none4-zero j) R
 
-      node-full : 4096 < count1 → (at' count' id : ℕ) (m' : List ℕ) → 4096 < count' → Works table list left at cells m count at' count' id m'
-      node-full l at' count' id m' g =
-          by-operator at' count' id m'
+      node-full : 4096 < count1 → (at' count' id : ℕ) (cells' m' : List ℕ) → 4096 < count' → Works table list left at cells m count at' count' id cells' m'
+      node-full l at' count' id cells' m' g =
+          by-operator at' count' id cells' m'
           (λ arities bases o us to ts h O T R.
           let w = worked us h in
           full g (over-more ts (partsOf w) (operator o w ∷ partsOf w) (λ x i. List·Memᴰ·tail i)
-          (is-full m1 count1 (GotAll to w) ts (partsOf w) l (args-of arities bases o us to ts h O T R))))
+          (is-full m1 count1 (GotAll bases h to w) ts (partsOf w) l (args-of arities bases o us to ts h O T R))))
 
       node-put : count1 ≤ 4096 → (count' id : ℕ) (m' : List ℕ) → Puts m1 count1 17 (getD list (at + 1) 0) ids1 count' id m'
-          → Works table list left at cells m count at1 count' id m'
+          → Works table list left at cells m count at1 count' id cells1 m'
       unfolding Puts Means TreeAt
       node-put l count' id m' P =
-          by-operator at1 count' id m'
+          by-operator at1 count' id cells1 m'
           (λ arities bases o us to ts h O T R.
           let w = worked us h in
           let v = operator o w in
-          let F = is-fine m1 count1 (GotAll to w) ts (partsOf w) l (args-of arities bases o us to ts h O T R) in
-          outcome-on ts (v ∷ partsOf w) m' count' (λ us. Ref us id v) (Got at1 to id v) (λ us g s. (F .3 .0, s))
-          (same-set m' count' (λ us. Ref us id v) ts (partsOf w ++ (v ∷ [])) (v ∷ partsOf w) (last-first v (partsOf w)) (first-last v (partsOf w))
-          (after-grown m' count' (λ us. Ref us id v) ts (partsOf w) (F .0) (v ∷ []) (F .2)
+          let Q : List Tree → Type 0 = Got table bases cells1 h at1 to id v in
+          let F = is-fine m1 count1 (GotAll bases h to w) ts (partsOf w) l (args-of arities bases o us to ts h O T R) in
+          same-set m' count' Q ts (partsOf w ++ (v ∷ [])) (v ∷ partsOf w) (last-first v (partsOf w)) (first-last v (partsOf w))
+          (after-grown m' count' Q ts (partsOf w) (F .0) (v ∷ []) (F .2)
+          (outcome-on (F .0) (v ∷ []) m' count' (λ us. Ref us id v) Q
+          (λ us g s. (F .3 .0, s, (F .3 .3 .0, cells-on bases cells1 (F .0) (v ∷ []) us h g (F .3 .3 .1))))
           (P (F .0) v (F .1) (refl, T .0 .one, args-four (F .0) ids1 w 0 (omega (arith, many-worked us h, T .3)) (F .3 .2))))))
 
       pub node-done : (at' count' id : ℕ) (m' : List ℕ) → Operates m1 (getD list (at + 1) 0) at1 count1 ids1 at' count' id m'
-          → Works table list left at cells m count at' count' id m'
+          → Works table list left at cells m count at' count' id cells1 m'
       node-done at' count' id m' D = go (leb count1 4096) refl
         where
-          go : (b : Bool) → leb count1 4096 ≡ b → Works table list left at cells m count at' count' id m'
+          go : (b : Bool) → leb count1 4096 ≡ b → Works table list left at cells m count at' count' id cells1 m'
           go true b =
               let l = leb-true count1 4096 b in
               let P = D .puts l in
-              subst (λ (x : ℕ). Works table list left at cells m count x count' id m') (sym (P .0)) (node-put l count' id m' (P .1))
-          go false b = let l = leb-false count1 4096 b in node-full l at' count' id m' (D .full l)
+              subst (λ (x : ℕ). Works table list left at cells m count x count' id cells1 m') (sym (P .0)) (node-put l count' id m' (P .1))
+          go false b = let l = leb-false count1 4096 b in node-full l at' count' id cells1 m' (D .full l)
 
 -- ---- operate
 module _ (m : List ℕ) (o at count : ℕ) (ids : List ℕ) where
@@ -180,16 +183,17 @@ module _ (m : List ℕ) (o at count : ℕ) (ids : List ℕ) where
 
 -- ---- args
 module _ (table list : List ℕ) (left at : ℕ) (cells m : List ℕ) (count k n : ℕ) (ids : List ℕ) where
-  abbrev GotRow : ℕ → List ℕ → ℕ → Trees → List Tree → Type 0
-  GotRow at' ids' to ws vs = (at' ≡ to) × ((j : ℕ) → j < k → getD ids' j 0 ≡ getD ids j 0) × Args vs ids' k ws
+  abbrev GotRow : List ℕ → List ℕ → Content Tree → ℕ → List ℕ → ℕ → Trees → List Tree → Type 0
+  GotRow bases cells' h at' ids' to ws vs =
+      (at' ≡ to) × ((j : ℕ) → j < k → getD ids' j 0 ≡ getD ids j 0) × Args vs ids' k ws × Holding table bases cells' vs h
 
-  pub all-none : n ≤ k → WorksAll table list left at cells m count k n ids at count ids m
+  pub all-none : n ≤ k → WorksAll table list left at cells m count k n ids at count ids cells m
   unfolding WorksAll TreesAt many valuesOf partsOf Args
-  all-none l arities bases nil to ts h O T c y z R = fine ts (R .stored) (grown-none ts [] (λ x i. absurd (List·Memᴰ·not-nil i))) (sym T, λ j i. refl, z)
+  all-none l arities bases nil to ts h O T c y z R = fine ts (R .stored) (grown-none ts [] (λ x i. absurd (List·Memᴰ·not-nil i))) (sym T, λ j i. refl, z, (R .slots, R .holds))
   all-none l arities bases (cons t us) to ts h O T c y z R = absurd (omega arith)
 
-  module _ (l : k < n) (at1 count1 id1 : ℕ) (m1 : List ℕ) (W : Works table list left at cells m count at1 count1 id1 m1) where
-    pub all-full : 4096 < count1 → (at' : ℕ) (ids' : List ℕ) → WorksAll table list left at cells m count k n ids at' count1 ids' m1
+  module _ (l : k < n) (at1 count1 id1 : ℕ) (cells1 m1 : List ℕ) (W : Works table list left at cells m count at1 count1 id1 cells1 m1) where
+    pub all-full : 4096 < count1 → (at' : ℕ) (ids' : List ℕ) → WorksAll table list left at cells m count k n ids at' count1 ids' cells1 m1
     unfolding WorksAll TreesAt many valuesOf partsOf Works
     all-full g at' ids' arities bases nil to ts h O T c y z R = absurd (omega arith)
     all-full g at' ids' arities bases (cons t us) to ts h O T c y z R =
@@ -197,22 +201,22 @@ module _ (table list : List ℕ) (left at : ℕ) (cells m : List ℕ) (count k n
         let w = partsOf (worked us h) in
         full g
         (over-more ts (parts v) (parts v ++ w) (λ x i. Memᴰ·append-left w i)
-        (is-full m1 count1 (Got at1 (T .0) id1 v) ts (parts v) g (W arities bases t (T .0) ts h O (T .1) R)))
+        (is-full m1 count1 (Got table bases cells1 h at1 (T .0) id1 v) ts (parts v) g (W arities bases t (T .0) ts h O (T .1) R)))
 
-    pub all-step : count1 ≤ 4096 → n ≤ 4 → (at' count' : ℕ) (ids' m' : List ℕ)
-        → WorksAll table list left at1 cells m1 count1 (k + 1) n (set ids k id1) at' count' ids' m'
-        → WorksAll table list left at cells m count k n ids at' count' ids' m'
+    pub all-step : count1 ≤ 4096 → n ≤ 4 → (at' count' : ℕ) (ids' cells' m' : List ℕ)
+        → WorksAll table list left at1 cells1 m1 count1 (k + 1) n (set ids k id1) at' count' ids' cells' m'
+        → WorksAll table list left at cells m count k n ids at' count' ids' cells' m'
     unfolding WorksAll TreesAt many valuesOf partsOf Works Args
-    all-step g i at' count' ids' m' A arities bases nil to ts h O T c y z R = absurd (omega arith)
-    all-step g i at' count' ids' m' A arities bases (cons t us) to ts h O T c y z R =
+    all-step g i at' count' ids' cells' m' A arities bases nil to ts h O T c y z R = absurd (omega arith)
+    all-step g i at' count' ids' cells' m' A arities bases (cons t us) to ts h O T c y z R =
         let v = valueOf free t h in
         let w = worked us h in
-        let F = is-fine m1 count1 (Got at1 (T .0) id1 v) ts (parts v) g (W arities bases t (T .0) ts h O (T .1) R) in
-        let R1 : Ready table bases cells m1 count1 (F .0) h = record { slots = R .slots; stored = F .1; holds = cells-on bases cells ts (parts v) (F .0) h (F .2) (R .holds) } in
+        let F = is-fine m1 count1 (Got table bases cells1 h at1 (T .0) id1 v) ts (parts v) g (W arities bases t (T .0) ts h O (T .1) R) in
+        let R1 : Ready table bases cells1 m1 count1 (F .0) h = record { slots = F .3 .2 .0; stored = F .1; holds = F .3 .2 .1 } in
         let z1 : (j : ℕ) → k + 1 ≤ j → getD (set ids k id1) j 0 ≡ 0 = λ j q. getD-set-other ids k j id1 0 (omega arith) ∙ z j (omega arith) in
-        let Q : List Tree → Type 0 = λ vs. (at' ≡ to) × ((j : ℕ) → j < k + 1 → getD ids' j 0 ≡ getD (set ids k id1) j 0) × Args vs ids' (k + 1) w in
-        after-grown m' count' (GotRow at' ids' to (cons v w)) ts (parts v) (F .0) (partsOf w) (F .2)
-        (outcome-on (F .0) (partsOf w) m' count' Q (GotRow at' ids' to (cons v w))
+        let Q : List Tree → Type 0 = λ vs. (at' ≡ to) × ((j : ℕ) → j < k + 1 → getD ids' j 0 ≡ getD (set ids k id1) j 0) × Args vs ids' (k + 1) w × Holding table bases cells' vs h in
+        after-grown m' count' (GotRow bases cells' h at' ids' to (cons v w)) ts (parts v) (F .0) (partsOf w) (F .2)
+        (outcome-on (F .0) (partsOf w) m' count' Q (GotRow bases cells' h at' ids' to (cons v w))
         (λ vs g q. (
           q .0,
           λ j i. q .1 j (omega arith) ∙ getD-set-other ids k j id1 0 (omega arith),
@@ -220,5 +224,6 @@ module _ (table list : List ℕ) (left at : ℕ) (cells m : List ℕ) (count k n
             subst (λ (r : ℕ). Ref vs r v) (sym (q .1 k (omega arith) ∙ getD-set-same ids k id1 0 (omega arith))) (grown-ref (F .0) (partsOf w) vs g id1 v (F .3 .1)),
             subst (λ (x : ℕ). Args vs ids' x w) (add-one k) (q .2),
           ),
+          q .3,
         ))
         (A arities bases us to (F .0) h O (subst (λ (x : ℕ). TreesAt arities bases list us left x to) (sym (F .3 .0)) (T .2)) (omega arith) (length-set ids k id1 ∙ y) z1 R1))

@@ -1,20 +1,21 @@
 -- Cells and their slots; what holds goes on holding as the store grows.
-use mathlib.Core.Path.{_≡_, refl, ap, _∙_}
+use mathlib.Core.Path.{_≡_, refl, sym, ap, _∙_, subst, subst₂}
 use mathlib.Core.Logic.{inl, inr, ⊎-elim}
 use mathlib.Core.Bool.{Bool, true, false}
 use mathlib.Core.List.{List}
 use Prim.Native.Nat.{ℕ, _+_, _≤_, _<_}
 use native.Mathlib.Omega.{arith}
-use lib.ListN.{length, getD}
-use lib.Dec.{ltb}
-use borrow.Author.Tests.{ltb-true, ltb-false}
+use lib.ListN.{length, getD, set, length-set}
+use lib.Seq.{getD-set-same, getD-set-other}
+use lib.Dec.{ltb, eqb}
+use borrow.Author.Tests.{ltb-true, ltb-false, eqb-true, eqb-false}
 use Rattle.model.specs.Update.{Tree}
 use Rattle.model.specs.Update.Tree.{cell}
 use Rattle.terms.specs.Stored.{Ref, Grown, Outcome, full, fine}
 use Rattle.terms.proofs.Sets.{grown-ref}
 use Rattle.unroller.specs.Stands.{Proper}
 use Rattle.comparer.specs.Meaning.{Content}
-use Rattle.comparer.specs.Work.{Table, slotOf, Finds, Arity, CellsHold}
+use Rattle.comparer.specs.Work.{Table, slotOf, Finds, Arity, Shows, CellsHold, Holding}
 
 -- ---- what `slot` and `arity` answer, where k is their number as an index
 module _ (table : List ℕ) (a c k : ℕ) (e : k ≡ a) where
@@ -74,6 +75,22 @@ cells-on bases cells ts vs us h g H a c p =
     ⊎-elim (λ (w : (getD cells (slotOf bases a c) 0 ≡ 0) × (h a c ≡ cell a c)). inl w)
     (λ (w : Ref ts (getD cells (slotOf bases a c) 0) (h a c)). inr (grown-ref ts vs us g (getD cells (slotOf bases a c) 0) (h a c) w))
     (H a c p)
+
+-- the id of a cell's content is written to the cell: the content is the same
+module _ (table bases cells : List ℕ) (a c k id : ℕ) (ts : List Tree) (h : Content Tree) where
+  pub holding-set : Table table bases (length cells) → Proper bases a c → k ≡ slotOf bases a c → Ref ts id (h a c) → CellsHold bases cells ts h
+      → Holding table bases (set cells k id) ts h
+  holding-set t p e r H = (subst (λ (x : ℕ). Table table bases x) (sym (length-set cells k id)) t, λ b d q. go b d q (eqb (slotOf bases b d) k) refl)
+    where
+      go : (b d : ℕ) → Proper bases b d → (x : Bool) → eqb (slotOf bases b d) k ≡ x → Shows ts (getD (set cells k id) (slotOf bases b d) 0) (cell b d) (h b d)
+      go b d q true f =
+          let s : slotOf bases b d ≡ k = eqb-true (slotOf bases b d) k f in
+          let x = slot-apart table bases (length cells) t a c b d p q (sym (s ∙ e)) in
+          let w : getD (set cells k id) (slotOf bases b d) 0 ≡ id =
+          ap (λ (i : ℕ). getD (set cells k id) i 0) s ∙ getD-set-same cells k id 0 (omega (arith, e, slot-in table bases (length cells) t a c p)) in
+          inr (subst (λ (i : ℕ). Ref ts i (h b d)) (sym w) (subst₂ (λ (x y : ℕ). Ref ts id (h x y)) (x .0) (x .1) r))
+      go b d q false f =
+          subst (λ (i : ℕ). Shows ts i (cell b d) (h b d)) (sym (getD-set-other cells k (slotOf bases b d) id 0 (eqb-false (slotOf bases b d) k f))) (H b d q)
 
 module _ (ts vs : List Tree) (m : List ℕ) (count : ℕ) (P : List Tree → Type 0) where
   pub outcome-on : (Q : List Tree → Type 0) → ((us : List Tree) → Grown ts vs us → P us → Q us) → Outcome ts vs m count P → Outcome ts vs m count Q

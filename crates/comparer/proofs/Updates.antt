@@ -17,7 +17,7 @@ use Rattle.terms.proofs.Sets.{grown-none, over-more, after-grown, is-full, is-f
 use Rattle.unroller.specs.Stands.{Proper, Three, TreeAt, UpdatesAt}
 use Rattle.comparer.specs.Meaning.{Content, valueOf, free, updated, after, values}
 use Rattle.comparer.specs.Work.{Operators, Table, slotOf, Finds, Shows, CellsHold, Ready, Works, Applies}
-use Rattle.comparer.proofs.Slots.{slot-in, slot-is, slot-apart, cells-on}
+use Rattle.comparer.proofs.Slots.{slot-in, slot-is, slot-apart}
 use Rattle.comparer.proofs.Arguments.{tree-past, Got}
 
 -- ---- a cell is written
@@ -58,14 +58,14 @@ module _ (table list : List ℕ) (at : ℕ) (cells m : List ℕ) (n : ℕ) where
   upd-end w arities bases [] ts h O T R = fine ts (R .stored) (grown-none ts [] (λ x i. absurd (List·Memᴰ·not-nil i))) (R .holds)
   upd-end w arities bases (u ∷ us) ts h O T R = absurd (w (T .0 .room) (T .0 .code))
 
-  module _ (room : at + 3 ≤ length list) (e : getD list at 0 ≡ 1) (at1 count1 id1 : ℕ) (m1 : List ℕ)
-      (W : Works table list 12 (at + 3) cells m n at1 count1 id1 m1) where
+  module _ (room : at + 3 ≤ length list) (e : getD list at 0 ≡ 1) (at1 count1 id1 : ℕ) (cells1 m1 : List ℕ)
+      (W : Works table list 12 (at + 3) cells m n at1 count1 id1 cells1 m1) where
     -- an update stands here, and its value was worked out: it is enough to show of it what is to be shown
     by-update : (r : ℕ) (cells' m' : List ℕ)
         → ((arities bases : List ℕ) (u : Update) (us : List Update) (ts : List Tree) (h : Content Tree) (to : ℕ) → Operators list arities
         → Three list at 1 (u .array) (u .target) → Proper bases (u .array) (u .target)
         → TreeAt arities bases list (u .source) 12 (at + 3) to → UpdatesAt arities bases list us to → Ready table bases cells m n ts h
-        → Outcome ts (parts (valueOf free (u .source) h)) m1 count1 (Got at1 to id1 (valueOf free (u .source) h))
+        → Outcome ts (parts (valueOf free (u .source) h)) m1 count1 (Got table bases cells1 h at1 to id1 (valueOf free (u .source) h))
         → Outcome ts (parts (valueOf free (u .source) h) ++ partsOfAll (values us (updated free h u))) m' r (λ vs. CellsHold bases cells' vs (after free us (updated free h u))))
         → Applies table list at cells m n r cells' m'
     unfolding Applies UpdatesAt Works
@@ -80,13 +80,13 @@ module _ (table list : List ℕ) (at : ℕ) (cells m : List ℕ) (n : ℕ) where
         let v = valueOf free (u .source) h in
         let rest = partsOfAll (values us (updated free h u)) in
         full (omega arith)
-        (over-more ts (parts v) (parts v ++ rest) (λ x i. Memᴰ·append-left rest i) (is-full m1 count1 (Got at1 to id1 v) ts (parts v) g X)))
+        (over-more ts (parts v) (parts v ++ rest) (λ x i. Memᴰ·append-left rest i) (is-full m1 count1 (Got table bases cells1 h at1 to id1 v) ts (parts v) g X)))
 
     pub upd-stuck : count1 ≤ 4096 → at1 ≤ at → (r : ℕ) (cells' m' : List ℕ) → Applies table list at cells m n r cells' m'
     upd-stuck g l r cells' m' =
         by-update r cells' m'
         (λ arities bases u us ts h to O w p T U R X.
-        let F = is-fine m1 count1 (Got at1 to id1 (valueOf free (u .source) h)) ts (parts (valueOf free (u .source) h)) g X in
+        let F = is-fine m1 count1 (Got table bases cells1 h at1 to id1 (valueOf free (u .source) h)) ts (parts (valueOf free (u .source) h)) g X in
         absurd (omega (arith, tree-past arities bases list (u .source) 12 (at + 3) to T, F .3 .0)))
 
     module _ (k : ℕ) (f : Finds table (getD list (at + 1) 0) (getD list (at + 2) 0) k) where
@@ -96,13 +96,14 @@ module _ (table list : List ℕ) (at : ℕ) (cells m : List ℕ) (n : ℕ) where
       slot-of bases u t w p =
           slot-is table bases (length cells) t (u .array) (u .target) k (subst₂ (λ (x y : ℕ). Finds table x y k) (w .one) (w .two) f) p
 
-      pub upd-wild : length cells ≤ k → (r : ℕ) (cells' m' : List ℕ) → Applies table list at cells m n r cells' m'
-      upd-wild l r cells' m' =
+      pub upd-wild : count1 ≤ 4096 → length cells1 ≤ k → (r : ℕ) (cells' m' : List ℕ) → Applies table list at cells m n r cells' m'
+      upd-wild g l r cells' m' =
           by-update r cells' m'
           (λ arities bases u us ts h to O w p T U R X.
-          absurd (omega (arith, slot-of bases u (R .slots) w p, slot-in table bases (length cells) (R .slots) (u .array) (u .target) p)))
+          let F = is-fine m1 count1 (Got table bases cells1 h at1 to id1 (valueOf free (u .source) h)) ts (parts (valueOf free (u .source) h)) g X in
+          absurd (omega (arith, slot-of bases u (R .slots) w p, slot-in table bases (length cells1) (F .3 .2 .0) (u .array) (u .target) p)))
 
-      pub upd-step : count1 ≤ 4096 → (r : ℕ) (cells' m' : List ℕ) → Applies table list at1 (set cells k id1) m1 count1 r cells' m'
+      pub upd-step : count1 ≤ 4096 → (r : ℕ) (cells' m' : List ℕ) → Applies table list at1 (set cells1 k id1) m1 count1 r cells' m'
           → Applies table list at cells m n r cells' m'
       unfolding Applies
       upd-step g r cells' m' A =
@@ -110,10 +111,10 @@ module _ (table list : List ℕ) (at : ℕ) (cells m : List ℕ) (n : ℕ) where
           (λ arities bases u us ts h to O w p T U R X.
           let v = valueOf free (u .source) h in
           let h1 : Content Tree = updated free h u in
-          let F = is-fine m1 count1 (Got at1 to id1 v) ts (parts v) g X in
+          let F = is-fine m1 count1 (Got table bases cells1 h at1 to id1 v) ts (parts v) g X in
           after-grown m' r (λ vs. CellsHold bases cells' vs (after free us h1)) ts (parts v) (F .0) (partsOfAll (values us h1)) (F .2)
           (A arities bases us (F .0) h1 O (subst (λ (x : ℕ). UpdatesAt arities bases list us x) (sym (F .3 .0)) U) (record {
-            slots = subst (λ (x : ℕ). Table table bases x) (sym (length-set cells k id1)) (R .slots);
+            slots = subst (λ (x : ℕ). Table table bases x) (sym (length-set cells1 k id1)) (F .3 .2 .0);
             stored = F .1;
-            holds = holds-update table bases cells k id1 (F .0) h u (R .slots) p (slot-of bases u (R .slots) w p) (F .3 .1) (cells-on bases cells ts (parts v) (F .0) h (F .2) (R .holds));
+            holds = holds-update table bases cells1 k id1 (F .0) h u (F .3 .2 .0) p (slot-of bases u (R .slots) w p) (F .3 .1) (F .3 .2 .1);
           })))

@@ -39,6 +39,10 @@ Shows ts r s t = ((r ≡ 0) × (t ≡ s)) ⊎ Ref ts r t
 abbrev pub CellsHold : List ℕ → List ℕ → List Tree → Content Tree → Type 0
 CellsHold bases cells ts h = (a c : ℕ) → Proper bases a c → Shows ts (getD cells (slotOf bases a c) 0) (cell a c) (h a c)
 
+-- the table has the slots of the cells, which hold the content h
+abbrev pub Holding : List ℕ → List ℕ → List ℕ → List Tree → Content Tree → Type 0
+Holding table bases cells ts h = Table table bases (length cells) × CellsHold bases cells ts h
+
 -- all is well: memory holds the trees ts, and the cells the content h
 pub record Ready (table bases cells m : List ℕ) (count : ℕ) (ts : List Tree) (h : Content Tree) : Type 0 where
   pub slots : Table table bases (length cells)
@@ -54,10 +58,11 @@ pub record Arity (list : List ℕ) (o n : ℕ) : Type 0 where
   pub few : n ≤ 4
   pub word : o < 16 → getD list (1 + o) 0 ≤ 4 → n ≡ getD list (1 + o) 0
 
-unfoldable pub Reads : List ℕ → List ℕ → List ℕ → ℕ → ℕ → ℕ → ℕ → ℕ → List ℕ → Type 0
-Reads table cells m count a c count' id m' =
+-- the cell's value is stored, with its parts, and the content stays
+unfoldable pub Reads : List ℕ → List ℕ → List ℕ → ℕ → ℕ → ℕ → ℕ → ℕ → List ℕ → List ℕ → Type 0
+Reads table cells m count a c count' id cells' m' =
     (bases : List ℕ) (ts : List Tree) (h : Content Tree) → Ready table bases cells m count ts h → Proper bases a c
-    → Outcome ts (parts (h a c)) m' count' (λ us. Ref us id (h a c))
+    → Outcome ts (parts (h a c)) m' count' (λ us. Ref us id (h a c) × Holding table bases cells' us h)
 
 -- an operator over the arguments in ids, where there was room for these
 pub record Operates (m : List ℕ) (o at count : ℕ) (ids : List ℕ) (at' count' id : ℕ) (m' : List ℕ) : Type 0 where
@@ -65,21 +70,23 @@ pub record Operates (m : List ℕ) (o at count : ℕ) (ids : List ℕ) (at' coun
   pub full : 4096 < count → 4096 < count'
 
 -- the tree at `at`: its value is stored, with its parts
-unfoldable pub Works : List ℕ → List ℕ → ℕ → ℕ → List ℕ → List ℕ → ℕ → ℕ → ℕ → ℕ → List ℕ → Type 0
-Works table list left at cells m count at' count' id m' =
+unfoldable pub Works : List ℕ → List ℕ → ℕ → ℕ → List ℕ → List ℕ → ℕ → ℕ → ℕ → ℕ → List ℕ → List ℕ → Type 0
+Works table list left at cells m count at' count' id cells' m' =
     (arities bases : List ℕ) (t : Tree) (to : ℕ) (ts : List Tree) (h : Content Tree) → Operators list arities → TreeAt arities bases list t left at to
-    → Ready table bases cells m count ts h → Outcome ts (parts (valueOf free t h)) m' count' (λ us. (at' ≡ to) × Ref us id (valueOf free t h))
+    → Ready table bases cells m count ts h
+    → Outcome ts (parts (valueOf free t h)) m' count' (λ us. (at' ≡ to) × Ref us id (valueOf free t h) × Holding table bases cells' us h)
 
-unfoldable pub WorksLeaf : List ℕ → List ℕ → ℕ → List ℕ → List ℕ → ℕ → ℕ → ℕ → ℕ → List ℕ → Type 0
-WorksLeaf table list at cells m count at' count' id m' =
-    (left : ℕ) → (getD list at 0 ≡ 17 → ⊥) → Works table list left at cells m count at' count' id m'
+unfoldable pub WorksLeaf : List ℕ → List ℕ → ℕ → List ℕ → List ℕ → ℕ → ℕ → ℕ → ℕ → List ℕ → List ℕ → Type 0
+WorksLeaf table list at cells m count at' count' id cells' m' =
+    (left : ℕ) → (getD list at 0 ≡ 17 → ⊥) → Works table list left at cells m count at' count' id cells' m'
 
 -- the trees at `at`: their values are stored, and their ids follow those below k
-unfoldable pub WorksAll : List ℕ → List ℕ → ℕ → ℕ → List ℕ → List ℕ → ℕ → ℕ → ℕ → List ℕ → ℕ → ℕ → List ℕ → List ℕ → Type 0
-WorksAll table list left at cells m count k n ids at' count' ids' m' =
+unfoldable pub WorksAll : List ℕ → List ℕ → ℕ → ℕ → List ℕ → List ℕ → ℕ → ℕ → ℕ → List ℕ → ℕ → ℕ → List ℕ → List ℕ → List ℕ → Type 0
+WorksAll table list left at cells m count k n ids at' count' ids' cells' m' =
     (arities bases : List ℕ) (us : Trees) (to : ℕ) (ts : List Tree) (h : Content Tree) → Operators list arities → TreesAt arities bases list us left at to
     → many us + k ≡ n → length ids ≡ 4 → ((j : ℕ) → k ≤ j → getD ids j 0 ≡ 0) → Ready table bases cells m count ts h
-    → Outcome ts (partsOf (worked us h)) m' count' (λ vs. (at' ≡ to) × ((j : ℕ) → j < k → getD ids' j 0 ≡ getD ids j 0) × Args vs ids' k (worked us h))
+    → Outcome ts (partsOf (worked us h)) m' count'
+    (λ vs. (at' ≡ to) × ((j : ℕ) → j < k → getD ids' j 0 ≡ getD ids j 0) × Args vs ids' k (worked us h) × Holding table bases cells' vs h)
 
 -- the updates at `at`: the cells hold what they leave, and memory every part of every value written
 unfoldable pub Applies : List ℕ → List ℕ → ℕ → List ℕ → List ℕ → ℕ → ℕ → List ℕ → List ℕ → Type 0

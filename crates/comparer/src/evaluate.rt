@@ -50,16 +50,16 @@ fn slot(bases: &[usize; 17], array: u32, cell: u32) -> usize
     base + wide(cell)
 }
 
-// What the cell holds now. One that is not written yet is its starting cell.
+// What the cell holds now. One that is not written yet is its starting cell, whose id it holds from then on.
 fn read(
     bases: &[usize; 17],
-    cells: &[u32],
+    cells: &mut [u32],
     terms: &mut [u32],
     count: u32,
     array: u32,
     cell: u32,
 ) -> Kept
-    ensures { λ r. ⌜ Reads (now (bases .entry)) (now (cells .entry)) (now (terms .entry)) count array cell (r .count) (r .id) (now (terms .exit)) ⌝ }
+    ensures { λ r. ⌜ Reads (now (bases .entry)) (now (cells .entry)) (now (terms .entry)) count array cell (r .count) (r .id) (now (cells .exit)) (now (terms .exit)) ⌝ }
 {
     let k = slot(bases, array, cell);
     if k >= cells.len() {
@@ -72,19 +72,21 @@ fn read(
             id: id,
         };
     }
-    terms::put(terms, count, 16, array, [cell, 0, 0, 0])
+    let p = terms::put(terms, count, 16, array, [cell, 0, 0, 0]);
+    cells[k] = p.id;
+    p
 }
 
 fn leaf(
     list: &[u32],
     at: usize,
     bases: &[usize; 17],
-    cells: &[u32],
+    cells: &mut [u32],
     terms: &mut [u32],
     count: u32,
 ) -> Step
     requires { ⌜ at + 3 ≤ length (now list) ⌝ }
-    ensures { λ r. ⌜ WorksLeaf (now (bases .entry)) (now (list .entry)) at (now (cells .entry)) (now (terms .entry)) count (r .at) (r .count) (r .id) (now (terms .exit)) ⌝ }
+    ensures { λ r. ⌜ WorksLeaf (now (bases .entry)) (now (list .entry)) at (now (cells .entry)) (now (terms .entry)) count (r .at) (r .count) (r .id) (now (cells .exit)) (now (terms .exit)) ⌝ }
 {
     let code = list[at];
     let x = list[at + 1];
@@ -142,13 +144,13 @@ fn node(
     list: &[u32],
     at: usize,
     bases: &[usize; 17],
-    cells: &[u32],
+    cells: &mut [u32],
     terms: &mut [u32],
     count: u32,
     left: usize,
 ) -> Step
     requires { ⌜ 98 ≤ length (now list) ⌝ }
-    ensures { λ r. ⌜ Works (now (bases .entry)) (now (list .entry)) left at (now (cells .entry)) (now (terms .entry)) count (r .at) (r .count) (r .id) (now (terms .exit)) ⌝ }
+    ensures { λ r. ⌜ Works (now (bases .entry)) (now (list .entry)) left at (now (cells .entry)) (now (terms .entry)) count (r .at) (r .count) (r .id) (now (cells .exit)) (now (terms .exit)) ⌝ }
 {
     if list.len() - 3 < at {
         return no_room();
@@ -181,7 +183,7 @@ fn args(
     list: &[u32],
     at: usize,
     bases: &[usize; 17],
-    cells: &[u32],
+    cells: &mut [u32],
     terms: &mut [u32],
     count: u32,
     left: usize,
@@ -190,7 +192,7 @@ fn args(
     ids: [u32; 4],
 ) -> Row
     requires { ⌜ (98 ≤ length (now list)) × (n ≤ 4) ⌝ }
-    ensures { λ r. ⌜ WorksAll (now (bases .entry)) (now (list .entry)) left at (now (cells .entry)) (now (terms .entry)) count k n ids (r .at) (r .count) (r .ids) (now (terms .exit)) ⌝ }
+    ensures { λ r. ⌜ WorksAll (now (bases .entry)) (now (list .entry)) left at (now (cells .entry)) (now (terms .entry)) count k n ids (r .at) (r .count) (r .ids) (now (cells .exit)) (now (terms .exit)) ⌝ }
 {
     let mut at = at;
     let mut count = count;

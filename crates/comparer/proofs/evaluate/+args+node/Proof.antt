@@ -42,12 +42,12 @@ node-below t = and 4 node-kinds.ps (falls 4 node-kinds.ps _<_ μ-node t) node.Pr
 
 -- an answer for the arguments from k on is one for those from k₀ on
 abbrev args-Inv-loop : args-lts.InvT-loop
-args-Inv-loop list start bases cells terms₀ number left first n at₀ count₀ k₀ ids₀ terms at count k ids =
-    (length terms ≡ length terms₀)
-    × ((at' count' : ℕ) (ids' m' : List ℕ) → WorksAll bases list left at cells terms count k n ids at' count' ids' m' → WorksAll bases list left at₀ cells terms₀ count₀ k₀ n ids₀ at' count' ids' m')
+args-Inv-loop list start bases cells₀ terms₀ number left first n at₀ count₀ k₀ ids₀ cells terms at count k ids =
+    (length cells ≡ length cells₀) × (length terms ≡ length terms₀)
+    × ((at' count' : ℕ) (ids' cells' m' : List ℕ) → WorksAll bases list left at cells terms count k n ids at' count' ids' cells' m' → WorksAll bases list left at₀ cells₀ terms₀ count₀ k₀ n ids₀ at' count' ids' cells' m')
 
 abbrev args-μ-loop : args-lts.MeasureT-loop
-args-μ-loop list start bases cells terms₀ number left first n at₀ count₀ k₀ ids₀ terms at count k ids = n - k
+args-μ-loop list start bases cells₀ terms₀ number left first n at₀ count₀ k₀ ids₀ cells terms at count k ids = n - k
 
 abbrev args-claims : ℕ → args-lts.Claims
 args-claims t = (node-below t, node.Post)
@@ -57,16 +57,19 @@ node-claims t = (no-room-reads.Asked, no-room-reads.Learnt, leaf-reads.Asked, le
 
 module _ (t : ℕ) where
   args-loop-holds : args-lts.Need-loop-holds (args-claims t) (args-at t) args.Post args-Inv-loop args-μ-loop
-  args-loop-holds c = (refl, λ at count ids m w. w)
+  args-loop-holds c = (refl, refl, λ at count ids cells m w. w)
 
   args-node-requires : args-lts.Need-node-requires (args-claims t) (args-at t) args.Post args-Inv-loop args-μ-loop
   args-node-requires c κs = (omega arith, search needs)
 
   args-same-length : args-lts.Need-same-length (args-claims t) (args-at t) args.Post args-Inv-loop args-μ-loop
-  args-same-length c = c .before .before .before .node .kept .1 .1 .1 .1 .0 ∙ c .before .before .before .before .before .before .loop .inv .0
+  args-same-length c = c .before .before .before .before .before .node .kept .1 .1 .1 .0 ∙ c .before .before .before .before .before .before .before .before .before .loop .inv .0
+
+  args-same-length-2 : args-lts.Need-same-length-2 (args-claims t) (args-at t) args.Post args-Inv-loop args-μ-loop
+  args-same-length-2 c = c .before .before .before .before .before .node .kept .1 .1 .1 .1 .0 ∙ c .before .before .before .before .before .before .before .before .before .loop .inv .1
 
   args-returns : args-lts.Need-returns (args-claims t) (args-at t) args.Post args-Inv-loop args-μ-loop
-  args-returns c = c .before .before .before .before .before .before .loop .inv .1 _ _ _ _ (all-full _ _ _ _ _ _ _ _ _ _ (c .before .before .before .before .before .loop-test .taken) _ _ _ _ (c .before .before .before .node .ensures) (c .if1 .taken) _ _)
+  args-returns c = c .before .before .before .before .before .before .before .before .before .loop .inv .2 _ _ _ _ _ (all-full _ _ _ _ _ _ _ _ _ _ (c .before .before .before .before .before .before .before .before .loop-test .taken) _ _ _ _ _ (c .before .before .before .before .before .node .ensures) (c .if1 .taken) _ _)
 
   args-mul-ids : args-lts.Need-mul-ids (args-claims t) (args-at t) args.Post args-Inv-loop args-μ-loop
   args-mul-ids c = search needs
@@ -81,13 +84,16 @@ module _ (t : ℕ) where
   args-loop-less c = omega arith
 
   args-loop-again : args-lts.Need-loop-again (args-claims t) (args-at t) args.Post args-Inv-loop args-μ-loop
-  args-loop-again c = (c .before .before .before .node .kept .1 .1 .1 .1 .0 ∙ c .before .before .before .before .before .before .loop .inv .0, λ at count ids m w. c .before .before .before .before .before .before .loop .inv .1 at count ids m (all-step _ _ _ _ _ _ _ _ _ _ (c .before .before .before .before .before .loop-test .taken) _ _ _ _ (c .before .before .before .node .ensures) (c .if1 .left) (c .before .before .before .before .before .before .before .before .before .before .pre .1 .1) at count ids m w))
+  args-loop-again c = (c .before .before .before .before .before .node .kept .1 .1 .1 .0 ∙ c .before .before .before .before .before .before .before .before .before .loop .inv .0, c .before .before .before .before .before .node .kept .1 .1 .1 .1 .0 ∙ c .before .before .before .before .before .before .before .before .before .loop .inv .1, λ at count ids cells m w. c .before .before .before .before .before .before .before .before .before .loop .inv .2 at count ids cells m (all-step _ _ _ _ _ _ _ _ _ _ (c .before .before .before .before .before .before .before .before .loop-test .taken) _ _ _ _ _ (c .before .before .before .before .before .node .ensures) (c .if1 .left) (c .before .before .before .before .before .before .before .before .before .before .before .before .before .pre .1 .1) at count ids cells m w))
 
-  args-same-length-2 : args-lts.Need-same-length-2 (args-claims t) (args-at t) args.Post args-Inv-loop args-μ-loop
-  args-same-length-2 c = c .before .loop .inv .0
+  args-same-length-3 : args-lts.Need-same-length-3 (args-claims t) (args-at t) args.Post args-Inv-loop args-μ-loop
+  args-same-length-3 c = c .before .loop .inv .0
+
+  args-same-length-4 : args-lts.Need-same-length-4 (args-claims t) (args-at t) args.Post args-Inv-loop args-μ-loop
+  args-same-length-4 c = c .before .loop .inv .1
 
   args-returns-2 : args-lts.Need-returns-2 (args-claims t) (args-at t) args.Post args-Inv-loop args-μ-loop
-  args-returns-2 c = c .before .loop .inv .1 _ _ _ _ (all-none _ _ _ _ _ _ _ _ _ _ (c .loop-test .left))
+  args-returns-2 c = c .before .loop .inv .2 _ _ _ _ _ (all-none _ _ _ _ _ _ _ _ _ _ (c .loop-test .left))
 
   node-sub-if1 : node-lts.Need-sub-if1 (node-claims t) (node-at t) node.Post
   node-sub-if1 c = omega arith
@@ -96,7 +102,7 @@ module _ (t : ℕ) where
   node-no-room-requires c κs = search needs
 
   node-returns : node-lts.Need-returns (node-claims t) (node-at t) node.Post
-  node-returns c = node-short _ _ _ _ _ _ _ (omega arith) _ _ _ _
+  node-returns c = node-short _ _ _ _ _ _ _ (omega arith) _ _ _ _ _
 
   node-mul-if2 : node-lts.Need-mul-if2 (node-claims t) (node-at t) node.Post
   node-mul-if2 c = search needs
@@ -110,14 +116,17 @@ module _ (t : ℕ) where
   node-same-length : node-lts.Need-same-length (node-claims t) (node-at t) node.Post
   node-same-length c = search needs
 
+  node-same-length-2 : node-lts.Need-same-length-2 (node-claims t) (node-at t) node.Post
+  node-same-length-2 c = search needs
+
   node-returns-2 : node-lts.Need-returns-2 (node-claims t) (node-at t) node.Post
-  node-returns-2 c = node-leaf _ _ _ _ _ _ _ _ _ _ _ (c .before .before .before .before .if2 .taken) (c .before .before .leaf .ensures)
+  node-returns-2 c = node-leaf _ _ _ _ _ _ _ _ _ _ _ _ (c .before .before .before .before .before .before .before .if2 .taken) (c .before .before .before .before .leaf .ensures)
 
   node-no-room-requires-2 : node-lts.Need-no-room-requires-2 (node-claims t) (node-at t) node.Post
   node-no-room-requires-2 c κs = search needs
 
   node-returns-3 : node-lts.Need-returns-3 (node-claims t) (node-at t) node.Post
-  node-returns-3 c = node-deep _ _ _ _ _ _ _ (c .before .before .if2 .left) (c .before .if3 .taken) _ _ _ _
+  node-returns-3 c = node-deep _ _ _ _ _ _ _ (c .before .before .if2 .left) (c .before .if3 .taken) _ _ _ _ _
 
   node-add-o : node-lts.Need-add-o (node-claims t) (node-at t) node.Post
   node-add-o c = omega arith
@@ -143,11 +152,14 @@ module _ (t : ℕ) where
   node-operate-requires : node-lts.Need-operate-requires (node-claims t) (node-at t) node.Post
   node-operate-requires c κs = search needs
 
-  node-same-length-2 : node-lts.Need-same-length-2 (node-claims t) (node-at t) node.Post
-  node-same-length-2 c = search needs
+  node-same-length-3 : node-lts.Need-same-length-3 (node-claims t) (node-at t) node.Post
+  node-same-length-3 c = search needs
+
+  node-same-length-4 : node-lts.Need-same-length-4 (node-claims t) (node-at t) node.Post
+  node-same-length-4 c = search needs
 
   node-returns-4 : node-lts.Need-returns-4 (node-claims t) (node-at t) node.Post
-  node-returns-4 c = node-done _ _ _ _ _ _ _ (c .before .before .before .before .before .before .before .before .before .before .before .if2 .left) _ (c .before .before .before .before .before .before .before .before .arity .ensures) _ _ _ _ (c .before .before .before .before .before .before .args2 .ensures) _ _ _ _ (c .before .before .operate .ensures)
+  node-returns-4 c = node-done _ _ _ _ _ _ _ (c .before .before .before .before .before .before .before .before .before .before .before .before .before .before .if2 .left) _ (c .before .before .before .before .before .before .before .before .before .before .before .arity .ensures) _ _ _ _ _ (c .before .before .before .before .before .before .before .before .args2 .ensures) _ _ _ _ (c .before .before .operate .ensures)
 
 pub +args+node-spec : {M : Type 1} → statement M
-+args+node-spec = close μ-args μ-node (λ t. args-lts.spec (args-claims t) (args-at t) args.Post args-Inv-loop args-μ-loop (args-loop-holds t) (args-node-requires t) (args-same-length t) (args-returns t) (args-mul-ids t) (args-array-write-ids t) (args-add-k t) (args-loop-less t) (args-loop-again t) (args-same-length-2 t) (args-returns-2 t)) λ t. node-lts.spec (node-claims t) (node-at t) node.Post (node-sub-if1 t) (node-no-room-requires t) (node-returns t) (node-mul-if2 t) (node-shared-slice-read-if2 t) (node-leaf-requires t) (node-same-length t) (node-returns-2 t) (node-no-room-requires-2 t) (node-returns-3 t) (node-add-o t) (node-mul-o t) (node-shared-slice-read-o t) (node-arity-requires t) (node-add-args t) (node-sub-args t) (node-args-requires t) (node-operate-requires t) (node-same-length-2 t) (node-returns-4 t)
++args+node-spec = close μ-args μ-node (λ t. args-lts.spec (args-claims t) (args-at t) args.Post args-Inv-loop args-μ-loop (args-loop-holds t) (args-node-requires t) (args-same-length t) (args-same-length-2 t) (args-returns t) (args-mul-ids t) (args-array-write-ids t) (args-add-k t) (args-loop-less t) (args-loop-again t) (args-same-length-3 t) (args-same-length-4 t) (args-returns-2 t)) λ t. node-lts.spec (node-claims t) (node-at t) node.Post (node-sub-if1 t) (node-no-room-requires t) (node-returns t) (node-mul-if2 t) (node-shared-slice-read-if2 t) (node-leaf-requires t) (node-same-length t) (node-same-length-2 t) (node-returns-2 t) (node-no-room-requires-2 t) (node-returns-3 t) (node-add-o t) (node-mul-o t) (node-shared-slice-read-o t) (node-arity-requires t) (node-add-args t) (node-sub-args t) (node-args-requires t) (node-operate-requires t) (node-same-length-3 t) (node-same-length-4 t) (node-returns-4 t)

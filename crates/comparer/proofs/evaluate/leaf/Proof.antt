@@ -37,8 +37,11 @@ add-t18 c = search needs
 same-length : tie.Need-same-length
 same-length c = search needs
 
+same-length-2 : tie.Need-same-length-2
+same-length-2 c = search needs
+
 returns : tie.Need-returns
-returns c = leaf-read _ _ _ _ _ _ _ _ _ (c .before .before .before .before .before .if1 .taken) (c .before .before .read .ensures)
+returns c = leaf-read _ _ _ _ _ _ _ _ _ (c .before .before .before .before .before .before .before .before .if1 .taken) _ (c .before .before .before .before .read .ensures)
 
 put-requires : tie.Need-put-requires
 put-requires c κs = search needs
@@ -46,8 +49,8 @@ put-requires c κs = search needs
 add-t12 : tie.Need-add-t12
 add-t12 c = search needs
 
-same-length-2 : tie.Need-same-length-2
-same-length-2 c = search needs
+same-length-3 : tie.Need-same-length-3
+same-length-3 c = search needs
 
 returns-2 : tie.Need-returns-2
 returns-2 c = leaf-put _ _ _ _ _ _ _ _ _ (c .before .before .before .before .if1 .left) (puts _ _ _ _ _ _ _ (c .before .before .put .ensures .0) (c .before .before .put .ensures .1))
@@ -67,8 +70,9 @@ leaf-spec =
     read-requires
     add-t18
     same-length
+    same-length-2
     returns
     put-requires
     add-t12
-    same-length-2
+    same-length-3
     returns-2)
