@@ -1,6 +1,7 @@
 // Reads known programs, accepted and refused, and writes what is said of each, one line each; then the lines of the known pairs.
 mod pairs;
 mod rows;
+mod unrolled;
 
 fn main() {
     rows::accepted();
@@ -18,5 +19,6 @@ fn main() {
     rows::operators_deep();
     rows::ends();
     rows::lengths();
+    unrolled::jacobi();
     pairs::all();
 }
