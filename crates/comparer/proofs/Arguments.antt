@@ -9,8 +9,8 @@ use native.Mathlib.Numerals.{add-one}
 use native.Mathlib.Omega.{arith}
 use lib.ListN.{length, getD, set, replicate, length-set, List·getD-eq-default, getD-replicate}
 use lib.Seq.{getD-set-same, getD-set-other}
-use lib.Dec.{ltb, leb}
-use borrow.Author.Tests.{ltb-true, ltb-false, leb-true, leb-false}
+use lib.Dec.{ltb, leb, eqb}
+use borrow.Author.Tests.{ltb-true, ltb-false, leb-true, leb-false, ne-eqb}
 use Rattle.model.specs.Update.{Tree, Trees}
 use Rattle.model.specs.Update.Tree.{cell, number, constant, operator}
 use Rattle.model.specs.Update.Trees.{nil, cons}
@@ -19,7 +19,7 @@ use Rattle.terms.specs.Stored.{In, Ref, Args, Means, Outcome, full, fine, Puts}
 use Rattle.terms.proofs.Sets.{grown-none, grown-ref, over-more, after-grown, same-set, is-full, is-fine}
 use Rattle.unroller.specs.Stands.{many, TreeAt, TreesAt}
 use Rattle.comparer.specs.Meaning.{Content, valueOf, valuesOf, free}
-use Rattle.comparer.specs.Work.{Operators, Arity, Operates, Holding, Ready, worked, Works, WorksAll}
+use Rattle.comparer.specs.Work.{Operators, Picks, Arity, Operates, Holding, Ready, worked, Works, WorksAll}
 use Rattle.comparer.proofs.Slots.{cells-on, outcome-on}
 
 -- ---- places
@@ -181,6 +181,25 @@ module _ (m : List ℕ) (o at count : ℕ) (ids : List ℕ) where
   pub operates-put : count ≤ 4096 → (count' id : ℕ) (m' : List ℕ) → Puts m count 17 o ids count' id m' → Operates m o at count ids at count' id m'
   operates-put l count' id m' P = record { puts = λ h. (refl, P); full = λ h. absurd (omega arith) }
 
+-- ---- four ids, each picked anew
+four-whole : (ids : List ℕ) → length ids ≡ 4 → getD ids 0 0 ∷ getD ids 1 0 ∷ getD ids 2 0 ∷ getD ids 3 0 ∷ [] ≡ ids
+four-whole [] e = absurd (omega arith)
+four-whole (x ∷ []) e = absurd (omega arith)
+four-whole (x ∷ y ∷ []) e = absurd (omega arith)
+four-whole (x ∷ y ∷ z ∷ []) e = absurd (omega arith)
+four-whole (x ∷ y ∷ z ∷ w ∷ []) e = refl
+four-whole (x ∷ y ∷ z ∷ w ∷ v ∷ l) e = absurd (omega arith)
+
+pub four-picked : (x y z w k id p q r s : ℕ) → Picks (eqb k 0) id x p → Picks (eqb k 1) id y q → Picks (eqb k 2) id z r → Picks (eqb k 3) id w s
+    → p ∷ q ∷ r ∷ s ∷ [] ≡ set (x ∷ y ∷ z ∷ w ∷ []) k id
+four-picked x y z w zero id p q r s a b c d = rw (a .0 refl, b .1 refl, c .1 refl, d .1 refl)
+four-picked x y z w (suc zero) id p q r s a b c d = rw (a .1 refl, b .0 refl, c .1 refl, d .1 refl)
+four-picked x y z w (suc (suc zero)) id p q r s a b c d = rw (a .1 refl, b .1 refl, c .0 refl, d .1 refl)
+four-picked x y z w (suc (suc (suc zero))) id p q r s a b c d = rw (a .1 refl, b .1 refl, c .1 refl, d .0 refl)
+four-picked x y z w (suc (suc (suc (suc k)))) id p q r s a b c d =
+    let n : ℕ = suc (suc (suc (suc k))) in
+    rw (a .1 (ne-eqb n 0 (λ h. omega arith)), b .1 (ne-eqb n 1 (λ h. omega arith)), c .1 (ne-eqb n 2 (λ h. omega arith)), d .1 (ne-eqb n 3 (λ h. omega arith)))
+
 -- ---- args
 module _ (table list : List ℕ) (left at : ℕ) (cells m : List ℕ) (count k n : ℕ) (ids : List ℕ) where
   abbrev GotRow : List ℕ → List ℕ → Content Tree → ℕ → List ℕ → ℕ → Trees → List Tree → Type 0
@@ -227,3 +246,17 @@ module _ (table list : List ℕ) (left at : ℕ) (cells m : List ℕ) (count k n
           q .3,
         ))
         (A arities bases us to (F .0) h O (subst (λ (x : ℕ). TreesAt arities bases list us left x to) (sym (F .3 .0)) (T .2)) (omega arith) (length-set ids k id1 ∙ y) z1 R1))
+
+    pub all-picked : count1 ≤ 4096 → n ≤ 4 → (ids1 : List ℕ) → (length ids ≡ 4 → ids1 ≡ set ids k id1) → (at' count' : ℕ) (ids' cells' m' : List ℕ)
+        → WorksAll table list left at1 cells1 m1 count1 (k + 1) n ids1 at' count' ids' cells' m'
+        → WorksAll table list left at cells m count k n ids at' count' ids' cells' m'
+    unfolding WorksAll
+    all-picked g i ids1 e at' count' ids' cells' m' A arities bases us to ts h O T c y z R =
+        all-step g i at' count' ids' cells' m' (subst (λ (l : List ℕ). WorksAll table list left at1 cells1 m1 count1 (k + 1) n l at' count' ids' cells' m') (e y) A) arities bases us to ts h O T c y z R
+
+  -- the ids one by one
+  pub all-four : (at' count' : ℕ) (ids' cells' m' : List ℕ) → WorksAll table list left at cells m count k n (getD ids 0 0 ∷ getD ids 1 0 ∷ getD ids 2 0 ∷ getD ids 3 0 ∷ []) at' count' ids' cells' m'
+      → WorksAll table list left at cells m count k n ids at' count' ids' cells' m'
+  unfolding WorksAll
+  all-four at' count' ids' cells' m' A arities bases us to ts h O T c y z R =
+      subst (λ (l : List ℕ). WorksAll table list left at cells m count k n l at' count' ids' cells' m') (four-whole ids y) A arities bases us to ts h O T c y z R

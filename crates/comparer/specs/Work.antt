@@ -3,6 +3,7 @@ use Prim.Native.Nat.{ℕ, _+_, _≤_, _<_}
 use mathlib.Core.Path.{_≡_}
 use mathlib.Core.Logic.{_⊎_}
 use mathlib.Core.List.{List}
+use mathlib.Core.Bool.{Bool, true, false}
 use lib.ListN.{length, getD}
 use Rattle.model.specs.Update.{Tree, Trees, Update}
 use Rattle.model.specs.Update.Tree.{cell}
@@ -31,6 +32,10 @@ slotOf bases a c = getD bases a 0 + c
 -- k is the slot, if there is one
 unfoldable pub Finds : List ℕ → ℕ → ℕ → ℕ → Type 0
 Finds table a c k = a < 17 → getD table a 0 ≤ 4096 → k ≡ getD table a 0 + c
+
+-- the one, or the other
+abbrev pub Picks : Bool → ℕ → ℕ → ℕ → Type 0
+Picks here id other r = (here ≡ true → r ≡ id) × (here ≡ false → r ≡ other)
 
 -- r is 0 and t the starting value s, or r is t's id plus 1
 abbrev pub Shows : List Tree → ℕ → Tree → Tree → Type 0

@@ -3,7 +3,7 @@ use terms::Kept;
 ghost use mathlib.Core.Path.{_≡_};
 ghost use Prim.Native.Nat.{_+_, _≤_, _<_};
 ghost use lib.ListN.{length};
-ghost use Rattle.comparer.specs.Work.{Finds, Arity, Reads, Operates, Works, WorksLeaf, WorksAll, Applies};
+ghost use Rattle.comparer.specs.Work.{Finds, Picks, Arity, Reads, Operates, Works, WorksLeaf, WorksAll, Applies};
 
 // The place past a tree, the number of terms, and the id plus 1. A number above 4,096: there is no room.
 struct Step {
@@ -123,6 +123,12 @@ fn arity(list: &[u32], operator: u32) -> usize
     n
 }
 
+fn pick(here: bool, id: u32, other: u32) -> u32
+    ensures { λ r. ⌜ Picks here id other r ⌝ }
+{
+    if here { id } else { other }
+}
+
 // The operator over its arguments, where they had room.
 fn operate(terms: &mut [u32], operator: u32, row: Row) -> Step
     ensures { λ r. ⌜ Operates (now (terms .entry)) operator (row .at) (row .count) (row .ids) (r .at) (r .count) (r .id) (now (terms .exit)) ⌝ }
@@ -178,7 +184,8 @@ fn node(
     operate(terms, o, row)
 }
 
-// The arguments from number k on, of n; `ids` has those before.
+// The arguments from number k on, of n; `ids` has those before. They are kept as four numbers: the processor waits for an array that
+// is filled a word at a time and loaded whole.
 fn args(
     list: &[u32],
     at: usize,
@@ -197,18 +204,32 @@ fn args(
     let mut at = at;
     let mut count = count;
     let mut k = k;
-    let mut ids = ids;
+    let mut a0 = ids[0];
+    let mut a1 = ids[1];
+    let mut a2 = ids[2];
+    let mut a3 = ids[3];
     while k < n {
         let s = node(list, at, bases, cells, terms, count, left);
         count = s.count;
         if count > 4096 {
-            return Row { at, count, ids };
+            return Row {
+                at,
+                count,
+                ids: [a0, a1, a2, a3],
+            };
         }
-        ids[k] = s.id;
+        a0 = pick(k == 0, s.id, a0);
+        a1 = pick(k == 1, s.id, a1);
+        a2 = pick(k == 2, s.id, a2);
+        a3 = pick(k == 3, s.id, a3);
         at = s.at;
         k += 1;
     }
-    Row { at, count, ids }
+    Row {
+        at,
+        count,
+        ids: [a0, a1, a2, a3],
+    }
 }
 
 // Works out the updates one after another. The answer is the number of terms then, or above 4,096 where they have no room.
