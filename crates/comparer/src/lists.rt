@@ -4,7 +4,7 @@ use crate::reply::Reply;
 use crate::reply::Side;
 use crate::tables::Tables;
 use crate::tables::tables_reply;
-use terms::clear;
+use model::memory::clear;
 use unroller::Checked;
 use unroller::check_list;
 ghost use mathlib.Core.Path.{_≡_};

@@ -3,7 +3,7 @@ use crate::lists::compared;
 use crate::lists::long_enough;
 use crate::reply::Reply;
 use crate::reply::Side;
-use terms::clear;
+use model::memory::clear;
 use unroller::Unrolled;
 use unroller::unroll;
 ghost use mathlib.Core.Path.{_≡_};

@@ -1,2 +1,3 @@
 pub mod Abs
 pub mod Up
+mod Zeros

@@ -1,1 +1,2 @@
-// Tables, update lists and replies, as definitions that all crates share. There is no code here.
+// Tables, update lists and replies, as definitions that all crates share, and the clearing of lent memory.
+pub mod memory;

@@ -3,7 +3,6 @@ pub mod Count
 pub mod Walks
 pub mod Words
 pub mod Cases
-pub mod Zeros
 pub mod Chains
 pub mod Nodes
 pub mod Trees

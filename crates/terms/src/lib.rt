@@ -2,7 +2,6 @@
 ghost use mathlib.Core.Path.{_≡_};
 ghost use Prim.Native.Nat.{_+_, _*_, _<_, _≤_};
 ghost use lib.ListN.{length};
-ghost use Rattle.model.specs.Memory.{cleared};
 ghost use Rattle.terms.specs.Mix.{eightfoldOf, stepOf, bucketOf};
 ghost use Rattle.terms.specs.Store.{nodeOf, nodeAt, eqNode, written, linkedIn, findOf, saysOf, readSays, out, internOf, keptOf, readOf, startsAt};
 
@@ -250,15 +249,4 @@ pub fn is_start(memory: &[u32], r: u32, a: u32, c: u32) -> bool
         a3: 0,
     };
     is_node(memory, wide(r - 1), node)
-}
-
-// Zeros, which are the empty store.
-pub fn clear(memory: &mut [u32])
-    ensures { λ _. ⌜ now (memory .exit) ≡ cleared (now (memory .entry)) ⌝ }
-{
-    let mut i: usize = 0;
-    while i < memory.len() {
-        memory[i] = 0;
-        i += 1;
-    }
 }

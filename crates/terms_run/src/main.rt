@@ -80,7 +80,7 @@ fn found(memory: &mut [u32], count: u32, first: u32, step: u32) -> u32 {
 }
 
 fn full(memory: &mut [u32], first: u32, step: u32, next: u32) {
-    terms::clear(memory);
+    model::memory::clear(memory);
     let count = fill(memory, first, step);
     say(b"stored", count);
     say(b"found", found(memory, count, first, step));
@@ -113,7 +113,7 @@ fn ask_start(memory: &[u32], r: u32, a: u32, c: u32) {
 
 // Two starting cells; the number of terms.
 fn cells(memory: &mut [u32]) -> u32 {
-    terms::clear(memory);
+    model::memory::clear(memory);
     let x = terms::put(memory, 0, 16, 3, [7, 0, 0, 0]);
     let y = terms::put(memory, x.count, 16, 3, [8, 0, 0, 0]);
     y.count

@@ -3,13 +3,11 @@ use mathlib.Core.Path.{_≡_, refl, sym, ap, ap₂, _∙_, subst}
 use Prim.Native.Nat.{ℕ, zero, suc, _+_, _-_, _*_, _≤_, _<_}
 use native.Mathlib.Numerals.{add-one}
 use native.Mathlib.Omega.{arith}
-use mathlib.Core.List.{List, [], _∷_, _++_, append-assoc, append-nil, map}
+use mathlib.Core.List.{List, [], _∷_, _++_, append-assoc, map}
 use mathlib.Core.Bool.{true, _&&_}
-use lib.ListN.{length, getD, set, drop, replicate, length-append, length-set}
+use lib.ListN.{length, getD, set, replicate, length-append, length-set}
 use lib.Seq.{sets, length-sets, ext-getD}
-use borrow.Author.Fill.{fill-more}
 use Rattle.model.specs.Test.{every}
-use Rattle.model.specs.Memory.{cleared}
 use Rattle.model.specs.Tables.{Array, Tables}
 use Rattle.reader.specs.Entries.{cut, threes, unpacked, packed}
 use Rattle.reader.specs.declared.tables.Tables.{Tables as Packed}
@@ -131,26 +129,6 @@ head-words t T u e p =
     rw (u, c, r)
 
 -- ---- loops that write
-pub record Zeroed (l₀ : List ℕ) (i : ℕ) (l : List ℕ) : Type 0 where
-  pub same-length : length l ≡ length l₀
-  pub holds : l ≡ replicate i 0 ++ drop i l₀
-
-pub zeroed-none : (l : List ℕ) → Zeroed l 0 l
-zeroed-none l = record { same-length = refl; holds = refl }
-
-pub zeroed-more : (l₀ l : List ℕ) (i : ℕ) → i < length l₀ → Zeroed l₀ i l → Zeroed l₀ (i + 1) (set l i 0)
-zeroed-more l₀ l i h z = record {
-  same-length = length-set l i 0 ∙ z .same-length;
-  holds = ap (λ (l : List ℕ). set l i 0) (z .holds) ∙ fill-more i 0 l₀ h;
-}
-
-pub zeroed-all : (l₀ l : List ℕ) (i : ℕ) → i ≡ length l₀ → Zeroed l₀ i l → l ≡ cleared l₀
-zeroed-all l₀ l i e z = z .holds ∙ ap (λ (n : ℕ). replicate n 0 ++ drop n l₀) e ∙ ap (λ (r : List ℕ). replicate (length l₀) 0 ++ r) (drop-length l₀) ∙ append-nil (replicate (length l₀) 0)
-  where
-    drop-length : (l : List ℕ) → drop (length l) l ≡ []
-    drop-length [] = refl
-    drop-length (x ∷ l) = drop-length l
-
 -- n words are left to be written; what is left makes of the list what the whole makes of the first
 pub record Putting (l₀ whole l left : List ℕ) (first at : ℕ) : Type 0 where
   pub same-length : length l ≡ length l₀

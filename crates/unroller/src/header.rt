@@ -4,7 +4,6 @@ ghost use mathlib.Core.List.{[], _∷_};
 ghost use Prim.Native.Nat.{_+_, _≤_, min};
 ghost use lib.ListN.{length};
 ghost use lib.Seq.{sets};
-ghost use Rattle.model.specs.Memory.{cleared};
 ghost use Rattle.reader.specs.Entries.{cut};
 ghost use Rattle.unroller.specs.UnrollAnswers.{rows, headWords};
 use reader::tables::Tables;
@@ -26,17 +25,6 @@ fn word_of_count(x: usize) -> u32
     ensures { λ r. ⌜ r ≡ min x 16 ⌝ }
 {
     if x < 16 { x as u32 } else { 16 }
-}
-
-pub(crate) fn clear(list: &mut [u32])
-    ensures { λ _. ⌜ now (list .exit) ≡ cleared (now (list .entry)) ⌝ }
-{
-    let n = list.len();
-    let mut i: usize = 0;
-    while i < n {
-        list[i] = 0;
-        i += 1;
-    }
 }
 
 fn put_arities(arities: [u8; 16], list: &mut [u32])

@@ -4,9 +4,9 @@ use native.Mathlib.Nat.{not-suc-le-zero}
 use Prim.Native.Nat.{_≤_, _-_}
 use mathlib.Core.Path.{_≡_, refl}
 use lib.ListN.{length}
-use Rattle.terms.proofs.Zeros.{ZeroTo, zero-more, all-zero}
-use Rattle.terms.proofs.clear.Statement.{statement}
-use Rattle.terms.proofs.clear.Tie as tie
+use Rattle.model.proofs.Zeros.{ZeroTo, zero-more, all-zero}
+use Rattle.model.proofs.memory.clear.Statement.{statement}
+use Rattle.model.proofs.memory.clear.Tie as tie
 
 abbrev Inv-loop : tie.InvT-loop
 Inv-loop memory₀ i₀ memory i = (length memory ≡ length memory₀) × (i ≤ length memory₀) × ZeroTo memory i
