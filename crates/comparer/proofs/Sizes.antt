@@ -14,7 +14,7 @@ use Rattle.model.specs.Test.{within, every}
 use Rattle.model.specs.Tables.{Array, Tables, cells, arrayAt}
 use Rattle.unroller.specs.Allowed.{allowedArray}
 use Rattle.unroller.specs.Stands.{basesOf, HeaderAt}
-use Rattle.unroller.proofs.Parts.{both, within-low, within-high, array-parts, TablesParts}
+use Rattle.unroller.proofs.Parts.{both, within-low, within-high, every-at, array-parts, TablesParts}
 use Rattle.unroller.proofs.Stands.{bases-length, bases-first, bases-step, bases-last, bases-sorted}
 use Rattle.comparer.specs.Match.{compared}
 use Rattle.comparer.specs.Work.{Table}
@@ -133,11 +133,6 @@ module _ (list : List ℕ) (t : Tables) (H : HeaderAt list t) (P : TablesParts t
     unfolding comparedAt
     compared-is mask = rw (H .array a h .role)
 
-every-at : (xs : List Array) (a : ℕ) → every allowedArray xs ≡ true → a < length xs → allowedArray (arrayAt xs a) ≡ true
-every-at [] a e h = absurd (omega arith)
-every-at (x ∷ xs) zero e h = both (allowedArray x) (every allowedArray xs) e .0
-every-at (x ∷ xs) (suc a) e h = every-at xs a (both (allowedArray x) (every allowedArray xs) e .1) (omega arith)
-
 -- an allowed extent is its own factor
 factor-own : (x : ℕ) → within 1 1024 x ≡ true → factorOf true x ≡ x
 factor-own x e = sym (factor-used true x refl (within-high 1 1024 x e) x refl)
@@ -168,7 +163,7 @@ module _ (list : List ℕ) (t : Tables) (H : HeaderAt list t) (P : TablesParts t
   unfolding sizeAt product
   size-cells a h =
       let A = H .array a h in
-      let Q = array-parts (arrayAt (t .arrays) a) (every-at (t .arrays) a (P .each) h) in
+      let Q = array-parts (arrayAt (t .arrays) a) (every-at allowedArray (t .arrays) (record { role = 3; extents = 0 ∷ [] }) a (P .each) h) in
       let z : record-at a + 2 + 0 ≡ record-at a + 2 = omega arith in
       let o : record-at a + 2 + 1 ≡ record-at a + 3 = omega arith in
       let w : record-at a + 2 + 2 ≡ record-at a + 4 = omega arith in

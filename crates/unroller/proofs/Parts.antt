@@ -1,10 +1,10 @@
 -- The parts of question 26, one by one, and put together again.
-use Prim.Native.Nat.{ℕ, _+_, _≤_, _<_}
+use Prim.Native.Nat.{ℕ, zero, suc, _+_, _≤_, _<_}
 use native.Mathlib.Omega.{arith}
 use mathlib.Core.Path.{_≡_, refl}
 use mathlib.Core.List.{List, [], _∷_, _++_}
 use mathlib.Core.Bool.{Bool, true, false, _&&_, and-eq-true-iff, and-true}
-use lib.ListN.{length}
+use lib.ListN.{length, getD}
 use lib.Dec.{leb}
 use lib.IntN.{ℤ, pos, negsuc}
 use borrow.Author.Tests.{leb-true, le-leb}
@@ -27,6 +27,11 @@ within-low low high n e = leb-true low n (both (leb low n) (leb n high) e .0)
 
 pub within-high : (low high n : ℕ) → within low high n ≡ true → n ≤ high
 within-high low high n e = leb-true n high (both (leb low n) (leb n high) e .1)
+
+pub every-at : {A : Type 0} (f : A → Bool) (l : List A) (d : A) (i : ℕ) → every f l ≡ true → i < length l → f (getD l i d) ≡ true
+every-at f [] d i e h = absurd (omega arith)
+every-at f (x ∷ l) d zero e h = both (f x) (every f l) e .0
+every-at f (x ∷ l) d (suc i) e h = every-at f l d i (both (f x) (every f l) e .1) (omega arith)
 
 pub record ArrayParts (x : Array) : Type 0 where
   pub role-known : within 0 3 (x .role) ≡ true

@@ -23,7 +23,7 @@ use Rattle.reader.specs.Field.{u32}
 use Rattle.reader.specs.Answers.{fieldSays}
 use Rattle.reader.specs.declared.fields.Field.{Field}
 use Rattle.reader.specs.declared.fields.Field.the-variants as field
-use Rattle.reader.proofs.Binds.{read-by, got-is}
+use Rattle.reader.proofs.Binds.{not-got, read-by, choose-by, got-is}
 use Rattle.reader.proofs.Steps.{field-got, field-no}
 use Rattle.unroller.specs.Run.{Ran, ok, stop, _>>=_, tree, trees}
 use Rattle.unroller.specs.Allowed.{allowedTables}
@@ -33,27 +33,14 @@ use Rattle.unroller.specs.declared.statement.Wrote.{Wrote}
 use Rattle.unroller.specs.declared.statement.Wrote.the-variants as wrote
 use Rattle.unroller.specs.declared.statement.Record.{Record}
 use Rattle.unroller.specs.declared.statement.Record.the-variants as rec
-use Rattle.unroller.proofs.Parts.{both, within-high, tables-parts}
+use Rattle.unroller.proofs.Parts.{within-high, every-at, tables-parts}
 use Rattle.unroller.proofs.Accepted.{index-below}
 use Rattle.unroller.proofs.Records.{words-count, count-some, wrote-more}
-
-refused : {A : Type 0} {P : Type 0} {k p : ℕ} {a : A} {next : ℕ} → _≡_ {A = Outcome A} (no k p) (got a next) → P
-refused e = absurd (let z : _≡_ {A = ℕ} 0 1 = cc in omega arith)
-
-choose-by : {A : Type 0} {P : Type 0} (z : Bool) (one other : Reader A) (s : List ℕ) (at : ℕ) {x : A} {next : ℕ}
-    → (if z then one else other) s at ≡ got x next → (z ≡ true → one s at ≡ got x next → P) → (z ≡ false → other s at ≡ got x next → P) → P
-choose-by true one other s at e f g = f refl e
-choose-by false one other s at e f g = g refl e
 
 -- arguments as a list
 listed : Exprs → List Expr
 listed none = []
 listed (more e es) = e ∷ listed es
-
-every-at : (f : ℕ → Bool) (l : List ℕ) (i : ℕ) → every f l ≡ true → i < length l → f (getD l i 0) ≡ true
-every-at f [] i e h = absurd (omega arith)
-every-at f (x ∷ l) zero e h = both (f x) (every f l) e .0
-every-at f (x ∷ l) (suc i) e h = every-at f l i (both (f x) (every f l) e .1) (omega arith)
 
 total-append : (xs ys : List Expr) → total (xs ++ ys) ≡ total xs + total ys
 unfolding total
@@ -161,7 +148,7 @@ module _ (s : List ℕ) (t : Tables) (loops : ℕ) (is : List ℤ) where
             (λ z g2. read-by (form loops s at1) _ g2 λ f at2 e1 r1. got-is (λ e. count e ≡ 1) r1 refl)
             λ z g2. choose-by (eqb code 0x13) (constantOf t loops) (refuse 9 q) s at1 g2
             (λ z g3. read-by (u32 s at1) _ g3 λ c at2 e1 r1. got-is (λ e. count e ≡ 1) r1 refl)
-            (λ z g3. refused g3)
+            (λ z g3. not-got g3)
 
         leaf-is : (q left : ℕ) (e : Expr) (mid : ℕ) → eqb code 17 ≡ false → node t loops (applied t loops left) s at ≡ got e mid → leafOf s at1 t loops is code at s at1 ≡ got e mid
         unfolding node
@@ -213,7 +200,7 @@ module _ (s : List ℕ) (at : ℕ) (t : Tables) (list : List ℕ) (to : ℕ) (li
   operator-by {P} place loops left {e} {mid} b g f = go left (rw b at g)
     where
       go : (left : ℕ) → applied t loops left place s at ≡ got e mid → P
-      go zero h = refused h
+      go zero h = not-got h
       go (suc less) h =
           read-by (index (length (t .arities)) s at) _ h λ o at1 e1 r1.
           read-by (times none more (node t loops (applied t loops less)) (getD (t .arities) o 0) s at1) _ r1 λ es at2 e2 r2.
@@ -234,7 +221,7 @@ module _ (s : List ℕ) (at : ℕ) (t : Tables) (list : List ℕ) (to : ℕ) (li
     pub operator-many : (j : ℕ) → 4 < n → WritesOperator s at t list to (rec.No j) list1
     unfolding WritesOperator WritesRecord
     operator-many j h place loops is b k list′ = rest-by s t loops is place k list to (wrote.No j) list′ λ e rest left mid next p g ch len l i a w.
-        absurd (let v = within-high 1 4 (getD (t .arities) o 0) (every-at (within 1 4) (t .arities) o (tables-parts t a .arity) (index-below (length (t .arities)) s at found)) in omega arith)
+        absurd (let v = within-high 1 4 (getD (t .arities) o 0) (every-at (within 1 4) (t .arities) 0 o (tables-parts t a .arity) (index-below (length (t .arities)) s at found)) in omega arith)
 
     pub operator-is : (word : ℕ) → (o < 4294967296 → word ≡ o) → list1 ≡ sets list to (17 ∷ word ∷ 0 ∷ []) → WritesOperator s at t list to (rec.Of at1 n) list1
     unfolding WritesOperator WritesRecord WritesRest count

@@ -2,7 +2,6 @@
 use mathlib.Core.Path.{_≡_, refl, sym, ap, ap₂, _∙_, subst}
 use Prim.Native.Nat.{ℕ, zero, suc, _+_, _*_, _≤_, _<_}
 use native.Mathlib.Omega.{arith}
-use native.Mathlib.Nat.{add-zero}
 use mathlib.Core.List.{List, [], _∷_, _++_}
 use mathlib.Core.Bool.{true, false}
 use lib.ListN.{length, getD, take, set, length-append}
@@ -27,6 +26,7 @@ use Rattle.reader.specs.declared.fields.Field.{Field}
 use Rattle.reader.specs.declared.fields.Field.the-variants as field
 use Rattle.reader.proofs.Binds.{read-by, got-is}
 use Rattle.reader.proofs.Steps.{field-got, field-no}
+use Rattle.reader.proofs.Flattened.{sets-append}
 use Rattle.unroller.specs.Run.{Ran, ok, stop, _>>=_, fits32, worked, cellAt, tree, trees}
 use Rattle.unroller.specs.Forms.{ValueIs, Values}
 use Rattle.unroller.specs.Allowed.{allowedTables}
@@ -44,12 +44,6 @@ use Rattle.unroller.proofs.Laws.{tree-length}
 use Rattle.unroller.proofs.Runs.{run-by, ok-is}
 use Rattle.unroller.proofs.Accepted.{worked-fits, cell-at-inside, Bytes, index-below, u32-below, subscripts-length}
 use Rattle.unroller.proofs.Stands.{bases-length, bases-last, bases-sorted, proper-inside}
-
-pub sets-append : (l : List ℕ) (i : ℕ) (xs ys : List ℕ) → sets l i (xs ++ ys) ≡ sets (sets l i xs) (i + length xs) ys
-sets-append l i [] ys = ap (λ (k : ℕ). sets l k ys) (sym (add-zero i))
-sets-append l i (x ∷ xs) ys =
-    let e : suc i + length xs ≡ i + suc (length xs) = omega arith in
-    sets-append (set l i x) (suc i) xs ys ∙ ap (λ (k : ℕ). sets (sets (set l i x) (suc i) xs) k ys) e
 
 -- three stores are one run
 pub put-is : (l : List ℕ) (to a b c : ℕ) → set (set (set l to a) (to + 1) b) (to + 2) c ≡ sets l to (a ∷ b ∷ c ∷ [])

@@ -21,7 +21,7 @@ use Rattle.unroller.specs.Layout.{padded, arrayWords, arraysWords, table
 use Rattle.unroller.specs.Decode.{decode}
 use Rattle.unroller.specs.State.{nowhere}
 use Rattle.unroller.specs.Stands.{basesFrom, basesOf, Proper, Three, ArrayAt, HeaderAt, many, TreeAt, TreesAt, UpdatesAt, Stands}
-use Rattle.unroller.proofs.Parts.{both, within-high, ArrayParts, array-parts, room, TablesParts, list-parts, fits32-signed}
+use Rattle.unroller.proofs.Parts.{both, within-high, every-at, ArrayParts, array-parts, room, TablesParts, list-parts, fits32-signed}
 use Rattle.unroller.proofs.Encode.{padded-length, arrays-length}
 use Rattle.unroller.proofs.Inverse.{layout-decode}
 
@@ -131,11 +131,6 @@ propers-many t nil left (suc n) e = absurd (false≢true e)
 propers-many t (cons x xs) left zero e = absurd (false≢true e)
 propers-many t (cons x xs) left (suc n) e = ap suc (propers-many t xs left n (both (proper x t left) (propers xs t left n) e .1))
 
-every-at : (low high : ℕ) (l : List ℕ) (i : ℕ) → every (within low high) l ≡ true → getD l i 0 ≤ high
-every-at low high [] i e = omega arith
-every-at low high (x ∷ l) zero e = within-high low high x (both (within low high x) (every (within low high) l) e .0)
-every-at low high (x ∷ l) (suc i) e = every-at low high l i (both (within low high x) (every (within low high) l) e .1)
-
 -- trees and updates
 module _ (w : List ℕ) (t : Tables) (arity : every (within 1 4) (t .arities) ≡ true) where
   abbrev ops : List ℕ
@@ -155,7 +150,7 @@ module _ (w : List ℕ) (t : Tables) (arity : every (within 1 4) (t .arities) �
     tree-stands (operator o ts) (suc left) at r p e =
         let q = both (ltb o (length ops)) (propers ts t left (getD ops o 0)) p in
         let m = propers-many t ts left (getD ops o 0) (q .1) in
-        let k = every-at 1 4 ops o arity in
+        let k = within-high 1 4 (getD ops o 0) (every-at (within 1 4) ops 0 o arity (ltb-true o (length ops) (q .0))) in
         let s = trees-stand ts left (getD ops o 0) (at + 3) r (q .1) (drop-more w at 3 (17 ∷ o ∷ 0 ∷ (treesWords ts ++ r)) e) in
         (s .0, (three-at w at 17 o 0 (treesWords ts ++ r) e, ltb-true o (length ops) (q .0), sym m, omega arith, (left, omega arith, s .1)), s .2)
 

@@ -25,6 +25,7 @@ use Rattle.reader.specs.declared.fields.Place.{Place}
 use Rattle.reader.specs.declared.fields.Place.the-variants as place
 use Rattle.reader.proofs.Binds.{read-by, asked-by, got-is}
 use Rattle.reader.proofs.Steps.{field-got, field-no}
+use Rattle.reader.proofs.Flattened.{sets-append}
 use Rattle.reader.proofs.Forward.{held-got, index-held, Counted, nodes-held}
 use Rattle.unroller.specs.Run.{Ran, ok, stop, _>>=_, ask, fits32, valueAt, worked, inExtent, cellFrom, cellAt, tree, trees, readable, Done, update, run}
 use Rattle.unroller.specs.Layout.{treeWords, updateWords, words, layout}
@@ -43,7 +44,7 @@ use Rattle.unroller.proofs.Parts.{within-high, tables-parts, nodes-snoc
 use Rattle.unroller.proofs.Laws.{words-long, layout-snoc}
 use Rattle.unroller.proofs.Runs.{run-by, ok-is}
 use Rattle.unroller.proofs.Accepted.{Bytes, Sound, cell-at-inside, subscripts-length, node-sound, applied-sound, index-below, tree-proper}
-use Rattle.unroller.proofs.Records.{sets-append, words-count, spot-below}
+use Rattle.unroller.proofs.Records.{words-count, spot-below}
 use Rattle.unroller.proofs.Scan.{scan-whole, fine-readable, spot-is, may-is, marked-more}
 
 -- the test of question 20

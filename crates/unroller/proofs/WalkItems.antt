@@ -18,7 +18,7 @@ use Rattle.reader.specs.Syntax.{Form, Item, Items}
 use Rattle.reader.specs.Syntax.Item.{statement, loop, guard}
 use Rattle.reader.specs.Syntax.Items.{end, item}
 use Rattle.reader.specs.Grammar.{form, step, statementOf, loopOf, guardOf, itemOf, nested, items, body}
-use Rattle.reader.proofs.Binds.{read-by}
+use Rattle.reader.proofs.Binds.{not-got, read-by, choose-by}
 use Rattle.reader.proofs.Bytes.{byte-is, byte-not}
 use Rattle.unroller.specs.Run.{Ran, ok, stop, _>>=_, ask, valueAt, fits32, worked, fits16, Done, goesOn, indices, rounds, run, runs}
 use Rattle.unroller.specs.Forms.{ValueIs, Values}
@@ -92,29 +92,21 @@ module _ (t : Tables) where
       ends a b e x y = ap₂ (λ (x y : ℤ). record { first = x; last = y }) x y
   range-step (stop x y) g z a b c to mid next r l f w k = absurd w
 
-refused : {A : Type 0} {P : Type 0} {k p : ℕ} {a : A} {next : ℕ} → _≡_ {A = Outcome A} (no k p) (got a next) → P
-refused e = absurd (let z : _≡_ {A = ℕ} 0 1 = cc in omega arith)
-
-choose-by : {A : Type 0} {P : Type 0} (z : Bool) (one other : Reader A) (s : List ℕ) (at : ℕ) {x : A} {next : ℕ}
-    → (if z then one else other) s at ≡ got x next → (z ≡ true → one s at ≡ got x next → P) → (z ≡ false → other s at ≡ got x next → P) → P
-choose-by true one other s at e f g = f refl e
-choose-by false one other s at e f g = g refl e
-
 -- ---- items, one by one
 module _ (one : ℕ → ℕ → Reader Item) (s : List ℕ) (at : ℕ) where
   items-in : (most : ℕ) {js : Items} {next : ℕ} → items one most s at ≡ got js next → at < length s
   unfolding items
-  items-in zero e = refused e
+  items-in zero e = not-got e
   items-in (suc most) e = read-by (byte s at) _ e λ code n b _. go (ltb at (length s)) refl b
     where
       go : {code n : ℕ} (z : Bool) → ltb at (length s) ≡ z → byte s at ≡ got code n → at < length s
       go true h b = ltb-true at (length s) h
-      go false h b = refused (byte-not s at (ltb-false at (length s) h) ∙ b)
+      go false h b = not-got (byte-not s at (ltb-false at (length s) h) ∙ b)
 
   items-by : {P : Type 0} (most : ℕ) {js : Items} {next : ℕ} → items one most s at ≡ got js next → (getD s at 0 ≡ 0 → js ≡ end → next ≡ at + 1 → P)
       → ((less mid : ℕ) (i : Item) (is : Items) → one (getD s at 0) at s (at + 1) ≡ got i mid → items one less s mid ≡ got is next → js ≡ item i is → P) → P
   unfolding items
-  items-by zero e f g = refused e
+  items-by zero e f g = not-got e
   items-by {P} (suc most) {js} {next} e f g =
       let h = items-in (suc most) e in
       read-by (byte s at) _ e λ code n b e1.
@@ -141,7 +133,7 @@ module _ (s : List ℕ) (t : Tables) (bases : List ℕ) (left loops : ℕ) (is :
   items-end z js next most d e _ _ _ h = items-by one s at most e (λ _ x y. rw x (sym y, h)) (λ less mid i is e1 e2 x. absurd (no-item mid i e1))
     where
       no-item : (mid : ℕ) (i : Item) → one (getD s at 0) at s (at + 1) ≡ got i mid → ⊥
-      no-item mid i e = refused (rw z at e)
+      no-item mid i e = not-got (rw z at e)
 
   module _ (r₀ : Walk) (to : ℕ) (p′ : Progress) (l′ f′ : List ℕ) (case : r₀ ≡ on to p′) (w₀ : RunsItem s at (getD s at 0) t bases left loops is p l f r₀ l′ f′) where
     w : RunsItem s at (getD s at 0) t bases left loops is p l f (on to p′) l′ f′
@@ -185,14 +177,14 @@ module _ (s : List ℕ) (t : Tables) (bases : List ℕ) (left loops : ℕ) (is :
 
     pub item-none : (code : ℕ) → (code ≡ 1 → ⊥) → (code ≡ 2 → ⊥) → (code ≡ 3 → ⊥) → RunsItem s at code t bases left loops is p l f r l′ f′
     unfolding RunsItem itemOf
-    item-none code n1 n2 n3 i next d e b8 l8 based h = refused (rw (ne-eqb code 1 n1, ne-eqb code 2 n2, ne-eqb code 3 n3) at e)
+    item-none code n1 n2 n3 i next d e b8 l8 based h = not-got (rw (ne-eqb code 1 n1, ne-eqb code 2 n2, ne-eqb code 3 n3) at e)
 
     pub nested-none : (code : ℕ) → left ≡ 0 → RunsNested s at code t bases left loops is p l f r l′ f′
     unfolding RunsNested nested
     nested-none code z i next d e b8 l8 based h = no-nested (rw z at e)
       where
         no-nested : {P : Type 0} → nested t (length s) 0 loops code at s (at + 1) ≡ got i next → P
-        no-nested e = refused e
+        no-nested e = not-got e
 
 -- ---- guards
 guarded : Items → Tables → List ℤ → Done → ℤ → Ran Done
