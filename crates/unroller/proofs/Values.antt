@@ -25,7 +25,7 @@ use Rattle.reader.specs.declared.forms.FormRead.{FormRead}
 use Rattle.reader.proofs.Affine.{length-signeds, form-all, form-cut, form-short}
 use Rattle.reader.proofs.Numbers.{by-order}
 use Rattle.unroller.specs.Run.{Ran, ok, stop, products, valueAt, fits32, worked}
-use Rattle.unroller.specs.Forms.{formSum, ValueIs, Values}
+use Rattle.unroller.specs.Forms.{formSum, fittedIn, ValueIs, Values}
 use Rattle.unroller.specs.declared.forms.Valued.{Valued}
 use Rattle.unroller.specs.declared.forms.Valued.the-variants.{Is, No}
 
@@ -48,6 +48,20 @@ sum-products z cs is (suc n) h k =
     ∙ ap (λ (w : ℤ). z +ℤ w) (sym (products-snoc (take n cs) (take n is) c i (omega arith)))
     ∙ ap₂ (λ (xs ys : List ℤ). z +ℤ products xs ys) (sym (take-suc cs n (pos 0) (omega arith))) (sym (take-suc is n (pos 0) (omega arith)))
 
+-- a number and a place that are the form's, question 21 asked of the number
+module _ (s : List ℕ) (at loops : ℕ) (is : List ℤ) (v : ℤ) (to : ℕ) where
+  record Formed (f : Form) (next : ℕ) : Type 0 where
+    place : to ≡ next
+    value : v ≡ valueAt f (take loops is)
+
+  values-fitted : ((f : Form) (next : ℕ) → form loops s at ≡ got f next → loops ≤ 8 → length is ≡ 8 → Formed f next) → Values s at loops is (fittedIn v to)
+  unfolding Values worked fittedIn
+  values-fitted formed f next p q h l = go (formed f next q h l) (fits32 v) refl
+    where
+      go : Formed f next → (z : Bool) → fits32 v ≡ z → ValueIs (worked p (take loops is) f) next (fittedIn v to)
+      go g true t = let y : fits32 (valueAt f (take loops is)) ≡ true = subst (λ (v : ℤ). fits32 v ≡ true) (g .value) t in rw (t, y) (g .value, g .place)
+      go g false t = let y : fits32 (valueAt f (take loops is)) ≡ false = subst (λ (v : ℤ). fits32 v ≡ false) (g .value) t in rw (t, y) refl
+
 module _ (s : List ℕ) (at loops : ℕ) (is : List ℤ) (r : FormRead) (i : FormIs loops (formStep loops s at) r) where
   -- the step is the form, where there are at most 8 loops
   stepped : (f : Form) (next : ℕ) → form loops s at ≡ got f next → loops ≤ 8 → formStep loops s at ≡ got f next
@@ -65,11 +79,7 @@ module _ (s : List ℕ) (at loops : ℕ) (is : List ℤ) (r : FormRead) (i : For
   value-refused number place e f next p q h l = absurd (placed-not (r .answer) _ f number place next e (says f next q h))
 
   module _ (to : ℕ) (e : r .answer ≡ Next to) (v : ℤ) (w : v ≡ formSum (r .constant) (r .coefficients) is (min loops 8)) where
-    record Formed (f : Form) (next : ℕ) : Type 0 where
-      place : to ≡ next
-      value : v ≡ valueAt f (take loops is)
-
-    formed : (f : Form) (next : ℕ) → form loops s at ≡ got f next → loops ≤ 8 → length is ≡ 8 → Formed f next
+    formed : (f : Form) (next : ℕ) → form loops s at ≡ got f next → loops ≤ 8 → length is ≡ 8 → Formed s at loops is v to f next
     formed f next q h l =
         let g : _≡_ {A = Outcome Form} (got (record { constant = r .constant; coefficients = take loops (r .coefficients) }) to) (got f next) = sym (ap (λ (p : Place). placed p (record { constant = r .constant; coefficients = take loops (r .coefficients) })) e) ∙ says f next q h in
         let x : _≡_ {A = Form} (record { constant = r .constant; coefficients = take loops (r .coefficients) }) f = cc in
@@ -87,49 +97,43 @@ module _ (s : List ℕ) (at loops : ℕ) (is : List ℤ) (r : FormRead) (i : For
             let b : length {A = ℤ} (replicate (8 - length (f .coefficients)) (pos 0)) ≡ 8 - length (f .coefficients) = length-replicate (8 - length (f .coefficients)) (pos 0) in
             omega arith
 
-    worked-ok : (f : Form) (next p : ℕ) → Formed f next → fits32 v ≡ true → ValueIs (worked p (take loops is) f) next (Is v to)
-    unfolding worked
-    worked-ok f next p g t =
-        let y : fits32 (valueAt f (take loops is)) ≡ true = subst (λ (v : ℤ). fits32 v ≡ true) (g .value) t in
-        rw y (g .value, g .place)
-
-    worked-wide : (f : Form) (next p : ℕ) → Formed f next → fits32 v ≡ false → ValueIs (worked p (take loops is) f) next (No 21)
-    unfolding worked
-    worked-wide f next p g t =
-        let y : fits32 (valueAt f (take loops is)) ≡ false = subst (λ (v : ℤ). fits32 v ≡ false) (g .value) t in
-        rw y refl
-
-    -- the value as its bits are read back
-    pub value-fits : SFits w64 v → fits32 v ≡ true → Values s at loops is (Is (toZ w64 (ofZ w64 v)) to)
-    unfolding Values
-    value-fits b t f next p q h l = rw (toZ-ofZ {w = w64} {z = v} b) (worked-ok f next p (formed f next q h l) t)
-
-    pub value-wide : fits32 v ≡ false → Values s at loops is (No 21)
-    unfolding Values
-    value-wide t f next p q h l = worked-wide f next p (formed f next q h l) t
+    pub value-fitted : Values s at loops is (fittedIn v to)
+    value-fitted = values-fitted s at loops is v to formed
 
 -- the code's two tests of 32 signed bits, on a number read back from its bits
-module _ (v : ℤ) (f : SFits w64 v) where
-  pub below : ltZ (toZ w64 (ofZ w64 v)) (negsuc 2147483647) ≡ true → fits32 v ≡ false
+module _ (v : ℤ) (next : ℕ) (f : SFits w64 v) where
+  below : ltZ (toZ w64 (ofZ w64 v)) (negsuc 2147483647) ≡ true → fits32 v ≡ false
   below e = go v (rw (toZ-ofZ {w = w64} {z = v} f) at e)
     where
       go : (v : ℤ) → ltZ v (negsuc 2147483647) ≡ true → fits32 v ≡ false
       go (pos n) e = absurd (false≢true e)
       go (negsuc n) e = let h = ltb-true 2147483647 n e in rw (lt-leb n 2147483647 h)
 
-  pub above : ltZ (pos 2147483647) (toZ w64 (ofZ w64 v)) ≡ true → fits32 v ≡ false
+  above : ltZ (pos 2147483647) (toZ w64 (ofZ w64 v)) ≡ true → fits32 v ≡ false
   above e = go v (rw (toZ-ofZ {w = w64} {z = v} f) at e)
     where
       go : (v : ℤ) → ltZ (pos 2147483647) v ≡ true → fits32 v ≡ false
       go (pos n) e = let h = ltb-true 2147483647 n e in lt-leb n 2147483647 h
       go (negsuc n) e = absurd (false≢true e)
 
-  pub between : ltZ (toZ w64 (ofZ w64 v)) (negsuc 2147483647) ≡ false → ltZ (pos 2147483647) (toZ w64 (ofZ w64 v)) ≡ false → fits32 v ≡ true
+  between : ltZ (toZ w64 (ofZ w64 v)) (negsuc 2147483647) ≡ false → ltZ (pos 2147483647) (toZ w64 (ofZ w64 v)) ≡ false → fits32 v ≡ true
   between e g = go v (rw (toZ-ofZ {w = w64} {z = v} f) at e) (rw (toZ-ofZ {w = w64} {z = v} f) at g)
     where
       go : (v : ℤ) → ltZ v (negsuc 2147483647) ≡ false → ltZ (pos 2147483647) v ≡ false → fits32 v ≡ true
       go (pos n) e g = let h = ltb-false 2147483647 n g in le-leb n 2147483647 h
       go (negsuc n) e g = let h = ltb-false 2147483647 n e in rw (le-leb n 2147483647 h)
+
+  pub fitted-below : ltZ (toZ w64 (ofZ w64 v)) (negsuc 2147483647) ≡ true → No 21 ≡ fittedIn v next
+  unfolding fittedIn
+  fitted-below e = rw (below e)
+
+  pub fitted-above : ltZ (pos 2147483647) (toZ w64 (ofZ w64 v)) ≡ true → No 21 ≡ fittedIn v next
+  unfolding fittedIn
+  fitted-above e = rw (above e)
+
+  pub fitted-between : ltZ (toZ w64 (ofZ w64 v)) (negsuc 2147483647) ≡ false → ltZ (pos 2147483647) (toZ w64 (ofZ w64 v)) ≡ false → Is (toZ w64 (ofZ w64 v)) next ≡ fittedIn v next
+  unfolding fittedIn
+  fitted-between e g = rw (between e g, toZ-ofZ {w = w64} {z = v} f)
 
 -- ---- forms worked out from the bytes
 pub getD-signeds : (n : ℕ) (s : List ℕ) (at k : ℕ) → k < n → getD (signeds n s at) k (pos 0) ≡ toZ w8 (getD s (at + k) 0)
@@ -160,11 +164,7 @@ module _ (s : List ℕ) (at loops : ℕ) (is : List ℤ) where
       no-form e g = let z : _≡_ {A = ℕ} 0 1 = cc in omega arith
 
   module _ (h : at + (2 + loops) ≤ length s) (c v : ℤ) (x : c ≡ toZ w16 (getD s at 0 + 256 * getD s (at + 1) 0)) (w : v ≡ formSum c (signeds loops s (at + 2)) is loops) where
-    record Made (f : Form) (next : ℕ) : Type 0 where
-      place : at + 2 + loops ≡ next
-      value : v ≡ valueAt f (take loops is)
-
-    made : (f : Form) (next : ℕ) → form loops s at ≡ got f next → loops ≤ 8 → length is ≡ 8 → Made f next
+    made : (f : Form) (next : ℕ) → form loops s at ≡ got f next → loops ≤ 8 → length is ≡ 8 → Formed s at loops is v (at + 2 + loops) f next
     made f next q l i =
         let g = form-all loops s at (omega arith) in
         let y : _≡_ {A = Form} (record { constant = toZ w16 (getD s at 0 + 256 * getD s (at + 1) 0); coefficients = signeds loops s (at + 2) }) f = cc in
@@ -176,16 +176,5 @@ module _ (s : List ℕ) (at loops : ℕ) (is : List ℤ) where
               ∙ ap (λ (f : Form). valueAt f (take loops is)) y;
         }
 
-    pub bytes-fit : SFits w64 v → fits32 v ≡ true → Values s at loops is (Is (toZ w64 (ofZ w64 v)) (at + 2 + loops))
-    unfolding Values worked
-    bytes-fit b t f next p q l i =
-        let g = made f next q l i in
-        let y : fits32 (valueAt f (take loops is)) ≡ true = subst (λ (v : ℤ). fits32 v ≡ true) (g .value) t in
-        rw (toZ-ofZ {w = w64} {z = v} b, y) (g .value, g .place)
-
-    pub bytes-wide : fits32 v ≡ false → Values s at loops is (No 21)
-    unfolding Values worked
-    bytes-wide t f next p q l i =
-        let g = made f next q l i in
-        let y : fits32 (valueAt f (take loops is)) ≡ false = subst (λ (v : ℤ). fits32 v ≡ false) (g .value) t in
-        rw y refl
+    pub bytes-fitted : Values s at loops is (fittedIn v (at + 2 + loops))
+    bytes-fitted = values-fitted s at loops is v (at + 2 + loops) made

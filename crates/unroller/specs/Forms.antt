@@ -4,10 +4,11 @@ use mathlib.Core.Path.{_≡_}
 use mathlib.Core.List.{List}
 use lib.ListN.{length, getD, take}
 use lib.IntN.{ℤ, pos, _+ℤ_, _*ℤ_}
+use Rattle.model.specs.Test.{if_then_else_}
 use Rattle.reader.specs.Field.{got}
 use Rattle.reader.specs.Syntax.{Form}
 use Rattle.reader.specs.Grammar.{form}
-use Rattle.unroller.specs.Run.{Ran, ok, stop, worked}
+use Rattle.unroller.specs.Run.{Ran, ok, stop, fits32, worked}
 use Rattle.unroller.specs.declared.forms.Valued.{Valued}
 use Rattle.unroller.specs.declared.forms.Valued.the-variants.{Is, No}
 
@@ -15,6 +16,10 @@ use Rattle.unroller.specs.declared.forms.Valued.the-variants.{Is, No}
 unfoldable pub formSum : ℤ → List ℤ → List ℤ → ℕ → ℤ
 formSum z cs is zero = z
 formSum z cs is (suc n) = formSum z cs is n +ℤ (getD cs n (pos 0) *ℤ getD is n (pos 0))
+
+-- a form's value and the place past it, where question 21 has a yes
+unfoldable pub fittedIn : ℤ → ℕ → Valued
+fittedIn v next = if fits32 v then Is v next else No 21
 
 -- What working out the form that stands at a place answers: as `worked` does, for whichever item.
 abbrev pub ValueIs : Ran ℤ → ℕ → Valued → Type 0

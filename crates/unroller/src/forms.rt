@@ -5,7 +5,7 @@ ghost use lib.ListN.{length};
 ghost use lib.IntN.{_+ℤ_, _*ℤ_, natAbs};
 ghost use Rattle.reader.specs.Entries.{signeds};
 ghost use Rattle.unroller.specs.Run.{goesOn};
-ghost use Rattle.unroller.specs.Forms.{formSum, Values};
+ghost use Rattle.unroller.specs.Forms.{formSum, fittedIn, Values};
 use reader::fields::Place;
 use reader::fields::has;
 use reader::fields::i8_of;
@@ -58,7 +58,20 @@ pub(crate) enum Valued {
     No(u8),
 }
 
-// Works out the form at `at` inside `loops` loops. Does the value fit in 32 signed bits? 21
+// Does a form's value fit in 32 signed bits? 21
+fn fitted(value: i64, next: usize) -> Valued
+    ensures { λ r. ⌜ r ≡ fittedIn value next ⌝ }
+{
+    if value < -2147483648 {
+        return Valued::No(21);
+    }
+    if value > 2147483647 {
+        return Valued::No(21);
+    }
+    Valued::Is(value, next)
+}
+
+// Works out the form at `at` inside `loops` loops.
 pub(crate) fn value_at(program: &[u8], at: usize, loops: usize, indices: [i16; 8]) -> Valued
     ensures { λ r. ⌜ Values (now (program .entry)) at loops indices r ⌝ }
 {
@@ -69,13 +82,7 @@ pub(crate) fn value_at(program: &[u8], at: usize, loops: usize, indices: [i16; 8
         Place::Next(next) => {
             let coefficients = form.coefficients;
             let v = form_value(form.constant, coefficients, indices, loops);
-            if v < -2147483648 {
-                return Valued::No(21);
-            }
-            if v > 2147483647 {
-                return Valued::No(21);
-            }
-            Valued::Is(v, next)
+            fitted(v, next)
         }
     }
 }
@@ -107,13 +114,7 @@ pub(crate) fn value_of(program: &[u8], at: usize, loops: usize, indices: [i16; 8
     }
     let constant = i16_of(pair(program[at], program[at + 1]));
     let v = sum_at(program, at + 2, constant, indices, loops);
-    if v < -2147483648 {
-        return Valued::No(21);
-    }
-    if v > 2147483647 {
-        return Valued::No(21);
-    }
-    Valued::Is(v, at + 2 + loops)
+    fitted(v, at + 2 + loops)
 }
 
 // Whether a loop with this step goes on at this index. The index is wider than 16 bits, so that a step past either end is seen.
