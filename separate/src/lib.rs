@@ -3,6 +3,7 @@
 //! Two encoded loop programs, or two update lists, go in; a reply comes out.
 
 pub mod compare;
+pub mod entries;
 pub mod input;
 pub mod limits;
 pub mod line;

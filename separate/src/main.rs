@@ -5,11 +5,12 @@ use std::io::{self, BufWriter, Read, Write};
 use std::process::ExitCode;
 
 use separate::input::INPUT_BYTES;
-use separate::random::{ListPairs, Pairs};
-use separate::{line_of, notation, stream, Reply, Work};
+use separate::random::{ListPairs, Pairs, Records};
+use separate::{entries, line_of, notation, stream, Reply, Work};
 
-const USAGE: &str = "usage: separate pair | lines | histogram | list-lines | asm | dis
-       separate random COUNT SEED | random-lists COUNT SEED";
+const USAGE: &str =
+    "usage: separate pair | lines | histogram | list-lines | entry-lines | asm | dis
+       separate random COUNT SEED | random-lists COUNT SEED | random-entries COUNT SEED";
 
 /// What goes to standard error before the program ends with status 2.
 type Outcome = Result<(), String>;
@@ -22,10 +23,12 @@ fn main() -> ExitCode {
         Some(["lines"]) => lines(),
         Some(["histogram"]) => histogram(),
         Some(["list-lines"]) => list_lines(),
+        Some(["entry-lines"]) => entry_lines(),
         Some(["asm"]) => asm(),
         Some(["dis"]) => dis(),
         Some(["random", count, seed]) => random(count, seed),
         Some(["random-lists", count, seed]) => random_lists(count, seed),
+        Some(["random-entries", count, seed]) => random_entries(count, seed),
         _ => Err(USAGE.to_string()),
     };
     match outcome {
@@ -115,6 +118,17 @@ fn list_lines() -> Outcome {
     })
 }
 
+fn entry_lines() -> Outcome {
+    let bytes = standard_input()?;
+    output(|out| {
+        for record in stream::inputs(&bytes) {
+            let record = record.map_err(|_| io::Error::other("the stream is cut"))?;
+            writeln!(out, "{}", entries::line(record))?;
+        }
+        Ok(())
+    })
+}
+
 fn number(word: &str) -> Result<u64, String> {
     word.parse().map_err(|_| format!("'{word}' is no number\n{USAGE}"))
 }
@@ -132,6 +146,14 @@ fn random_lists(count: &str, seed: &str) -> Outcome {
     output(|mut out| {
         let mut pairs = ListPairs::new(seed).take(count as usize);
         pairs.try_for_each(|pair| stream::write_lists(&mut out, &pair))
+    })
+}
+
+fn random_entries(count: &str, seed: &str) -> Outcome {
+    let (count, seed) = (number(count)?, number(seed)?);
+    output(|mut out| {
+        let mut records = Records::new(seed).take(count as usize);
+        records.try_for_each(|record| stream::write_input(&mut out, &record))
     })
 }
 

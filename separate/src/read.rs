@@ -78,12 +78,18 @@ pub struct Program {
 pub fn read_program(bytes: &[u8]) -> Result<Program, Refusal> {
     Question::ProgramLength.ask(bytes.len() <= PROGRAM_BYTES, 0)?;
     let mut reader = Reader { bytes, place: 0, program: Program::default() };
-    reader.mark_and_version()?;
-    reader.operators()?;
-    reader.arrays()?;
+    reader.tables()?;
     reader.items(Scope { loops: 0, nesting: 0 })?;
     Question::FileEnd.ask(reader.place == bytes.len(), reader.place)?;
     Ok(reader.program)
+}
+
+/// The tables alone, with the place of the first item; the file may be longer
+/// than a program.
+pub fn read_tables(bytes: &[u8]) -> Result<(Tables, usize), Refusal> {
+    let mut reader = Reader { bytes, place: 0, program: Program::default() };
+    reader.tables()?;
+    Ok((reader.program.tables, reader.place))
 }
 
 /// What encloses an item: loops give forms their coefficients, loops and
@@ -119,6 +125,13 @@ impl Reader<'_> {
         let byte = self.byte()?;
         question.ask(yes(u32::from(byte)), place)?;
         Ok(byte)
+    }
+
+    /// All that comes before the items.
+    fn tables(&mut self) -> Result<(), Refusal> {
+        self.mark_and_version()?;
+        self.operators()?;
+        self.arrays()
     }
 
     fn mark_and_version(&mut self) -> Result<(), Refusal> {

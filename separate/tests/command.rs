@@ -97,8 +97,17 @@ fn list_pairs() {
 }
 
 #[test]
+fn entry_records() {
+    let stream = separate(&["random-entries", "200", "5"], b"").stdout;
+    assert_eq!(stream, separate(&["random-entries", "200", "5"], b"").stdout);
+    let output = separate(&["entry-lines"], &stream);
+    assert_eq!(text(&output.stdout).lines().count(), 200);
+    assert_eq!(output.status.code(), Some(0));
+}
+
+#[test]
 fn cut_streams() {
-    for command in ["lines", "histogram", "list-lines"] {
+    for command in ["lines", "histogram", "list-lines", "entry-lines"] {
         let output = separate(&[command], &[9, 0, 0, 0, 1]);
         assert_eq!(output.status.code(), Some(2), "{command}");
         assert!(text(&output.stderr).contains("cut"));

@@ -1,6 +1,7 @@
-//! Random pairs of programs and of lists, the same for the same seed.
+//! Random pairs of programs and of lists and random records, the same for the same seed.
 
 mod changes;
+mod entries;
 mod lists;
 mod pairs;
 mod programs;
@@ -8,6 +9,7 @@ mod refusals;
 mod rewrites;
 mod templates;
 
+pub use entries::Records;
 pub use lists::{ListPairs, Parts};
 pub use pairs::Pairs;
 

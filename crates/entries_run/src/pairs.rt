@@ -1,0 +1,203 @@
+// The comparer's entries over two programs, over framed input, and over a reply.
+use crate::memory::fill;
+use crate::memory::say_sum;
+use crate::numbers::Args;
+use crate::numbers::low_byte;
+use crate::numbers::refused;
+use crate::numbers::say;
+use crate::numbers::wide;
+use comparer::reply::Reply;
+use comparer::reply::Side;
+
+pub(crate) fn called(entry: usize, x: Args, s: &[u8]) {
+    match entry {
+        31 => {
+            compared(entry, x, s);
+        }
+        32 => {
+            compared(entry, x, s);
+        }
+        33 => {
+            line(x);
+        }
+        _ => {
+            refused();
+        }
+    }
+}
+
+// The words that fill each memory again and again come before the bytes.
+fn compared(entry: usize, x: Args, s: &[u8]) {
+    let k = x.f;
+    if k > s.len() / 4 {
+        refused();
+        return;
+    }
+    let words = &s[0..4 * k];
+    let mut left_list = [0u32; 33000];
+    let mut right_list = [0u32; 33000];
+    let mut cells = [0u32; 33000];
+    let mut terms = [0u32; 33000];
+    fill(&mut left_list, words, k);
+    fill(&mut right_list, words, k);
+    fill(&mut cells, words, k);
+    fill(&mut terms, words, k);
+    lent(
+        entry,
+        x,
+        &s[4 * k..],
+        &mut left_list,
+        &mut right_list,
+        &mut cells,
+        &mut terms,
+    );
+}
+
+// So many words of each.
+fn lent(
+    entry: usize,
+    x: Args,
+    s: &[u8],
+    left_list: &mut [u32],
+    right_list: &mut [u32],
+    cells: &mut [u32],
+    terms: &mut [u32],
+) {
+    let one = x.b;
+    let other = x.c;
+    let third = x.d;
+    let fourth = x.e;
+    if one > left_list.len() {
+        refused();
+        return;
+    }
+    if other > right_list.len() {
+        refused();
+        return;
+    }
+    if third > cells.len() {
+        refused();
+        return;
+    }
+    if fourth > terms.len() {
+        refused();
+        return;
+    }
+    entered(
+        entry,
+        x.a,
+        s,
+        &mut left_list[0..one],
+        &mut right_list[0..other],
+        &mut cells[0..third],
+        &mut terms[0..fourth],
+    );
+}
+
+fn entered(
+    entry: usize,
+    n: usize,
+    s: &[u8],
+    left_list: &mut [u32],
+    right_list: &mut [u32],
+    cells: &mut [u32],
+    terms: &mut [u32],
+) {
+    if n > s.len() {
+        refused();
+        return;
+    }
+    say_reply(reply(entry, n, s, left_list, right_list, cells, terms));
+    say_sum(left_list);
+    say_sum(right_list);
+    say_sum(cells);
+    say_sum(terms);
+}
+
+// The left has n bytes of `s`, the right the others; framed input is all of `s`.
+fn reply(
+    entry: usize,
+    n: usize,
+    s: &[u8],
+    left_list: &mut [u32],
+    right_list: &mut [u32],
+    cells: &mut [u32],
+    terms: &mut [u32],
+) -> Reply {
+    if entry == 32 {
+        return comparer::compare_input(s, left_list, right_list, cells, terms);
+    }
+    if n > s.len() {
+        return Reply::Equal(0);
+    }
+    comparer::compare_programs(&s[0..n], &s[n..], left_list, right_list, cells, terms)
+}
+
+fn say_reply(reply: Reply) {
+    match reply {
+        Reply::Equal(n) => {
+            say(0);
+            say(n);
+        }
+        Reply::Differs(a, e) => {
+            say(1);
+            say(a);
+            say(e);
+        }
+        Reply::Refused(side, k, p) => {
+            say(2);
+            say_side(side);
+            say(wide(k));
+            say(p);
+        }
+    }
+}
+
+fn say_side(side: Side) {
+    match side {
+        Side::Left => {
+            say(0);
+        }
+        Side::Right => {
+            say(1);
+        }
+        Side::Both => {
+            say(2);
+        }
+        Side::Input => {
+            say(3);
+        }
+    }
+}
+
+fn line(x: Args) {
+    let line = comparer::line_of(reply_of(x));
+    let bytes = line.bytes;
+    say(line.len);
+    say_bytes(&bytes);
+}
+
+fn reply_of(x: Args) -> Reply {
+    match x.a % 3 {
+        0 => Reply::Equal(x.b),
+        1 => Reply::Differs(x.b, x.c),
+        _ => Reply::Refused(side_of(x.d % 4), low_byte(x.e), x.f),
+    }
+}
+
+fn side_of(n: usize) -> Side {
+    match n {
+        0 => Side::Left,
+        1 => Side::Right,
+        2 => Side::Both,
+        _ => Side::Input,
+    }
+}
+
+fn say_bytes(bytes: &[u8; 64]) {
+    let mut k: usize = 0;
+    while k < 64 {
+        say(wide(bytes[k]));
+        k += 1;
+    }
+}

@@ -1,0 +1,385 @@
+//! Random records for `entries`: half of what is lent is random, half comes
+//! from programs, with places inside them and a few bytes damaged.
+
+use super::{Pairs, Random};
+use crate::entries::numbers::{flat, Row, ROW};
+use crate::limits::{CELL_WORDS, LIST_WORDS, TERM_WORDS};
+use crate::read::read_tables;
+
+/// A record is no longer.
+const RECORD: usize = 65_536;
+
+/// Pairs that programs are taken from; each is used some hundred times.
+const POOL: usize = 32;
+
+/// Entries with how often each is called. 0 stands for records that no entry
+/// has.
+#[rustfmt::skip]
+const WEIGHTS: [(u8, usize); 28] = [
+    (0, 1), (1, 3), (2, 1), (3, 1), (4, 1), (5, 2), (6, 2), (7, 3), (8, 3), (9, 4),
+    (10, 2), (11, 2), (12, 3), (13, 3), (14, 3), (15, 4), (16, 3), (17, 2),
+    (18, 12), (19, 12), (20, 6), (21, 5), (22, 6), (23, 6), (30, 8), (31, 3), (32, 3),
+    (33, 3),
+];
+
+/// Words that give terms of kind 19 the mixes 0, 1, 2 …, so one bucket.
+const CROWDED: (u32, u32) = (0u32.wrapping_sub(19), 1_537_457_537);
+
+/// An endless stream of records.
+pub struct Records {
+    random: Random,
+    pairs: Pairs,
+    pool: Vec<Vec<u8>>,
+}
+
+impl Iterator for Records {
+    type Item = Vec<u8>;
+
+    fn next(&mut self) -> Option<Vec<u8>> {
+        if self.random.chance(10) {
+            let old = self.random.below(POOL);
+            self.pool[old] = self.pairs.next()?;
+        }
+        let weights = WEIGHTS.map(|(_, weight)| weight);
+        let (entry, _) = WEIGHTS[self.random.weighted(&weights)];
+        let mut record = match entry {
+            0 => self.unfit(),
+            1..=9 => self.single(entry),
+            10..=17 => self.tabled(entry),
+            18 | 19 => self.nested(entry),
+            20..=23 => self.part(entry),
+            30 => self.store(),
+            31 | 32 => self.pair(entry),
+            _ => self.reply(),
+        };
+        record.truncate(RECORD);
+        Some(record)
+    }
+}
+
+fn record(entry: u8, arguments: [usize; 6], lent: &[u8]) -> Vec<u8> {
+    let arguments = arguments.map(|argument| (argument as u64).to_le_bytes());
+    [&[entry], arguments.as_flattened(), lent].concat()
+}
+
+fn words(words: &[u32]) -> Vec<u8> {
+    words.iter().flat_map(|word| word.to_le_bytes()).collect()
+}
+
+/// Numbers at which something changes.
+fn limits(length: usize) -> [usize; 22] {
+    let most = usize::MAX;
+    let (before, after) = (length.wrapping_sub(1), length + 1);
+    let small = [0, 1, 2, 3, 7, 8, 9, 12, 13, 15, 16, 17, 255, 256, 65_535, 65_536];
+    let large = [before, length, after, u32::MAX as usize, most - 1, most];
+    std::array::from_fn(|k| if k < 16 { small[k] } else { large[k - 16] })
+}
+
+impl Records {
+    pub fn new(seed: u64) -> Records {
+        let mut pairs = Pairs::new(seed);
+        let pool = pairs.by_ref().take(POOL).collect();
+        Records { random: Random::new(!seed), pairs, pool }
+    }
+
+    /// Any number; a place within so many bytes in most cases.
+    fn number(&mut self, length: usize) -> usize {
+        match self.random.below(10) {
+            0..=3 => self.random.below(length + 1),
+            4 | 5 => self.random.below(20),
+            6..=8 => *self.random.pick(&limits(length)),
+            _ => self.random.draw() as usize,
+        }
+    }
+
+    /// A number of loops, or another small number, or any.
+    fn small(&mut self, most: usize) -> usize {
+        if self.random.chance(80) {
+            self.random.below(most + 1)
+        } else {
+            self.number(most)
+        }
+    }
+
+    /// Bytes at random, or such as stand in programs.
+    fn soup(&mut self) -> Vec<u8> {
+        let length = if self.random.chance(2) { 17_000 } else { 60 };
+        let length = self.random.below(length + 1);
+        if self.random.chance(30) {
+            return self.random.bytes(length);
+        }
+        let codes = [0, 0, 0, 1, 1, 2, 3, 4, 0x10, 0x11, 0x12, 0x13, 0xFF];
+        (0..length).map(|_| *self.random.pick(&codes)).collect()
+    }
+
+    /// The two programs of a pair, as far as it is well framed.
+    fn programs(&mut self) -> (Vec<u8>, Vec<u8>) {
+        let input = self.random.pick(&self.pool);
+        let Some((length, rest)) = input.split_first_chunk() else {
+            return (Vec::new(), input.clone());
+        };
+        let left = usize::from(u16::from_le_bytes(*length)).min(rest.len());
+        (rest[..left].to_vec(), rest[left..].to_vec())
+    }
+
+    fn program(&mut self) -> Vec<u8> {
+        let (left, right) = self.programs();
+        if self.random.chance(50) {
+            left
+        } else {
+            right
+        }
+    }
+
+    fn damage(&mut self, bytes: &mut [u8]) {
+        if bytes.is_empty() || self.random.chance(60) {
+            return;
+        }
+        for _ in 0..1 + self.random.below(4) {
+            let place = self.random.below(bytes.len());
+            let byte = if self.random.chance(50) {
+                self.random.below(20) as u8
+            } else {
+                self.random.byte()
+            };
+            bytes[place] = byte;
+        }
+    }
+
+    fn bytes(&mut self) -> Vec<u8> {
+        if self.random.chance(50) {
+            return self.soup();
+        }
+        let mut bytes = self.program();
+        self.damage(&mut bytes);
+        bytes
+    }
+
+    /// The tables of some bytes, where they have any, or numbers at random.
+    fn row(&mut self, bytes: &[u8]) -> Row {
+        let Ok((tables, _)) = read_tables(bytes) else {
+            let most = *self.random.pick(&[3, 4, 16, 2_000]);
+            let arrays = [0, 17].map(|_| self.small(16));
+            let mut row = std::array::from_fn(|_| self.small(most));
+            [row[0], row[17]] = arrays;
+            return row;
+        };
+        let mut row = flat(&tables);
+        if self.random.chance(40) {
+            for _ in 0..1 + self.random.below(4) {
+                row[self.random.below(ROW)] = self.number(16);
+            }
+        }
+        row
+    }
+
+    /// A place where one of these bytes stands, or any.
+    fn place(&mut self, bytes: &[u8], wanted: &[u8]) -> usize {
+        let places: Vec<_> = (0..bytes.len()).filter(|&k| wanted.contains(&bytes[k])).collect();
+        if places.is_empty() || self.random.chance(25) {
+            self.number(bytes.len())
+        } else {
+            *self.random.pick(&places)
+        }
+    }
+
+    /// Too short, or with a number that no entry has.
+    fn unfit(&mut self) -> Vec<u8> {
+        let length = self.random.below(120);
+        let mut record = self.random.bytes(length);
+        if let Some(entry) = record.first_mut() {
+            *entry = *self.random.pick(&[0, 10, 18, 24, 29, 30, 31, 34, 255]);
+        }
+        record
+    }
+
+    fn single(&mut self, entry: u8) -> Vec<u8> {
+        let bytes = self.bytes();
+        let at = self.number(bytes.len());
+        let other = self.number(bytes.len());
+        record(entry, [at, other, 0, 0, 0, 0], &bytes)
+    }
+
+    fn tabled(&mut self, entry: u8) -> Vec<u8> {
+        let bytes = self.bytes();
+        let row = self.row(&bytes).map(|number| (number as u64).to_le_bytes());
+        let (a, b) = (self.small(17), self.small(4));
+        record(entry, [a, b, 0, 0, 0, 0], row.as_flattened())
+    }
+
+    /// One operator or guard in the other, at and around the limits.
+    fn deep(&mut self, entry: u8) -> Vec<u8> {
+        if entry == 18 {
+            let leaf = [0x13, 1, 2, 3, 4];
+            return [[0x11, 0].repeat(10 + self.random.below(5)), leaf.to_vec()].concat();
+        }
+        let depth = 6 + self.random.below(5);
+        [[3, 0, 0].repeat(depth), vec![0; depth + 1]].concat()
+    }
+
+    /// An expression or items, over tables.
+    fn nested(&mut self, entry: u8) -> Vec<u8> {
+        if self.random.chance(5) {
+            let mut row = self.row(&[]);
+            [row[0], row[1]] = [1, 1];
+            let row = row.map(|number| (number as u64).to_le_bytes());
+            let arguments = [0, if entry == 18 { 0 } else { 8 }, 0, 0, 0, 0];
+            return record(entry, arguments, &[row.as_flattened(), &self.deep(entry)].concat());
+        }
+        let mut bytes = if self.random.chance(40) { self.soup() } else { self.program() };
+        let row = self.row(&bytes).map(|number| (number as u64).to_le_bytes());
+        let first = read_tables(&bytes).map(|(_, first)| first);
+        self.damage(&mut bytes);
+        let arguments = if entry == 18 {
+            let at = self.place(&bytes, &[0x10, 0x11, 0x12, 0x13]);
+            [at, self.small(3), 0, 0, 0, 0]
+        } else {
+            match first {
+                Ok(first) if self.random.chance(50) => [first, 8, 0, 0, 0, 0],
+                _ => {
+                    let at = self.place(&bytes, &[0, 1, 2, 3]);
+                    [at, self.small(9), self.small(3), 0, 0, 0]
+                }
+            }
+        };
+        record(entry, arguments, &[row.as_flattened(), &bytes].concat())
+    }
+
+    fn part(&mut self, entry: u8) -> Vec<u8> {
+        let bytes = self.bytes();
+        let (at, loops) = (self.number(bytes.len()), self.small(9));
+        let count = self.small(6);
+        record(entry, [at, loops, count, 0, 0, 0], &bytes)
+    }
+
+    /// A script for the store, over zeros or over words that hold no store.
+    fn store(&mut self) -> Vec<u8> {
+        let odd = [0, 1, 8, TERM_WORDS - 1, TERM_WORDS + 1, 33_000, 33_001];
+        let length = if self.random.chance(85) { TERM_WORDS } else { *self.random.pick(&odd) };
+        let garbage = self.garbage();
+        let period = if self.random.chance(80) { garbage.len() } else { self.number(33_000) };
+        let steps = if self.random.chance(3) { 300 } else { 30 };
+        let steps = 1 + self.random.below(steps);
+        let script = (0..steps).flat_map(|_| self.step());
+        let lent = [words(&garbage), script.collect()].concat();
+        record(30, [length, garbage.len(), period, 0, 0, 0], &lent)
+    }
+
+    /// Nothing, or records whose links and heads are small, or anything.
+    fn garbage(&mut self) -> Vec<u32> {
+        match self.random.below(10) {
+            0..=5 => Vec::new(),
+            6..=8 => {
+                let records = 1 + self.random.below(4);
+                let link = |random: &mut Random| random.below(12) as u32;
+                (0..records)
+                    .flat_map(|_| {
+                        let node = self.node();
+                        let links = [link(&mut self.random), link(&mut self.random)];
+                        node.into_iter().chain(links)
+                    })
+                    .collect()
+            }
+            _ => (0..1 + self.random.below(30)).map(|_| self.random.draw() as u32).collect(),
+        }
+    }
+
+    fn word(&mut self) -> u32 {
+        if self.random.chance(95) {
+            self.random.below(4) as u32
+        } else {
+            self.random.draw() as u32
+        }
+    }
+
+    /// Array and cell of a start, few enough to be asked for.
+    fn cell(&mut self) -> [u32; 2] {
+        [self.random.below(2) as u32, self.random.below(2) as u32]
+    }
+
+    /// Few enough for a term to come again; some in one bucket.
+    fn node(&mut self) -> [u32; 6] {
+        match self.random.below(10) {
+            0..=2 => {
+                let [array, cell] = self.cell();
+                [16, array, cell, 0, 0, 0]
+            }
+            3..=5 => {
+                let (first, step) = CROWDED;
+                [
+                    19,
+                    first.wrapping_add(step.wrapping_mul(self.random.below(12) as u32)),
+                    0,
+                    0,
+                    0,
+                    0,
+                ]
+            }
+            6..=8 => [17, self.word(), self.word(), self.word(), self.word(), self.word()],
+            _ => std::array::from_fn(|_| self.random.draw() as u32),
+        }
+    }
+
+    fn step(&mut self) -> Vec<u8> {
+        let code = self.random.weighted(&[4, 35, 4, 25, 3, 14, 15]) as u8;
+        let count = *self.random.pick(&[0, 1, 2, 5, 4_095, 4_096, 4_097, u32::MAX]);
+        let numbers = match code {
+            5 => {
+                let number =
+                    if self.random.chance(60) { self.random.below(12) } else { self.number(4_096) };
+                [number as u32, ((number as u64) >> 32) as u32, 0, 0, 0, 0, 0]
+            }
+            6 => {
+                let id = if self.random.chance(80) { self.random.below(8) as u32 } else { count };
+                let [array, cell] = self.cell();
+                [id, array, cell, 0, 0, 0, 0]
+            }
+            _ => {
+                let [kind, payload, a, b, c, d] = self.node();
+                [count, kind, payload, a, b, c, d]
+            }
+        };
+        [vec![code], words(&numbers)].concat()
+    }
+
+    fn reply(&mut self) -> Vec<u8> {
+        let numbers = std::array::from_fn(|_| self.number(2_048));
+        record(33, numbers, &[])
+    }
+
+    /// Two programs or framed input.
+    fn pair(&mut self, entry: u8) -> Vec<u8> {
+        let (left, mut bytes) = if entry == 31 {
+            let (left, right) = self.programs();
+            (left.len(), [left, right].concat())
+        } else {
+            (0, self.random.pick(&self.pool).clone())
+        };
+        if self.random.chance(10) {
+            bytes = self.soup();
+        }
+        self.damage(&mut bytes);
+        let left =
+            if self.random.chance(90) { left.min(bytes.len()) } else { self.number(bytes.len()) };
+        let odd = [
+            0,
+            1,
+            CELL_WORDS - 1,
+            CELL_WORDS,
+            CELL_WORDS + 1,
+            LIST_WORDS - 1,
+            LIST_WORDS + 1,
+            33_000,
+        ];
+        let lengths = [LIST_WORDS, LIST_WORDS, CELL_WORDS, TERM_WORDS];
+        let lengths =
+            lengths.map(
+                |length| if self.random.chance(92) { length } else { *self.random.pick(&odd) },
+            );
+        let [one, other, cells, terms] = lengths;
+        let garbage: Vec<_> =
+            (0..self.random.below(9)).map(|_| self.random.draw() as u32).collect();
+        let lent = [words(&garbage), bytes].concat();
+        record(entry, [left, one, other, cells, terms, garbage.len()], &lent)
+    }
+}

@@ -1,0 +1,156 @@
+//! Single entries: known values, and what random records reach.
+
+mod common;
+use std::collections::BTreeMap;
+
+use common::L;
+use separate::entries::line;
+use separate::random::Records;
+
+const MOST: usize = usize::MAX;
+
+fn record(entry: u8, arguments: [usize; 6], lent: &[u8]) -> Vec<u8> {
+    let arguments = arguments.map(|argument| (argument as u64).to_le_bytes());
+    [&[entry], arguments.as_flattened(), lent].concat()
+}
+
+fn call(entry: u8, arguments: &[usize], lent: &[u8]) -> String {
+    let argument = |k: usize| arguments.get(k).copied().unwrap_or(0);
+    line(&record(entry, std::array::from_fn(argument), lent))
+}
+
+/// The tables of program L: an in and an out array of two elements.
+fn l_row() -> [usize; 115] {
+    let mut row = [0; 115];
+    for (at, number) in [(17, 2), (19, 1), (34, 1), (35, 1), (50, 2), (53, 2), (99, 2), (100, 4)] {
+        row[at] = number;
+    }
+    row
+}
+
+fn text(numbers: &[usize]) -> String {
+    numbers.iter().map(|number| format!(" {number}")).collect()
+}
+
+#[test]
+fn single_fields() {
+    assert_eq!(call(1, &[0, 0], b""), "1 1");
+    assert_eq!(call(1, &[MOST, 1], b"abc"), "1 0");
+    assert_eq!(call(2, &[0x22, 1], b""), "2 290");
+    assert_eq!(call(3, &[255], b""), "3 -1");
+    assert_eq!(call(4, &[0x8000], b""), "4 -32768");
+    assert_eq!(call(5, &[2], b"abc"), "5 1 99 3");
+    assert_eq!(call(6, &[MOST], b"abc"), format!("6 0 3 {MOST}"));
+    assert_eq!(call(7, &[0, 97], b"abc"), "7 0 10 0");
+    assert_eq!(call(8, &[1], &[1, 0, 0]), "8 0 11 1");
+    assert_eq!(call(8, &[0], &[0xFE, 0xFF]), "8 1 -2 2");
+    assert_eq!(call(9, &[0, 2], b"ALP"), "9 1 5262401 3");
+}
+
+#[test]
+fn parts_of_program_l() {
+    let row = l_row();
+    let bytes: Vec<_> = row.iter().flat_map(|&number| (number as u64).to_le_bytes()).collect();
+    let lent = [&bytes[..], &L].concat();
+    assert_eq!(call(14, &[2], &lent), "14 1");
+    assert_eq!(call(13, &[MOST], &lent), "13 3");
+    assert_eq!(call(18, &[27, 1], &lent), "18 1 1 32");
+    assert_eq!(call(18, &[27, 9], &lent), "18 0 3 34");
+    assert_eq!(call(19, &[15, 8, 0], &lent), "19 1 34");
+    assert_eq!(call(19, &[15, 0, 0], &lent), "19 0 12 15");
+    assert_eq!(call(19, &[15, 9, 0], &lent), "19 0 12 15");
+    assert_eq!(call(20, &[24, 1], &L), "20 1 27 0 1 0 0 0 0 0 0 0");
+    assert_eq!(call(20, &[33, 9], &L), "20 0 12 33 0 0 0 0 0 0 0 0 0");
+    assert_eq!(call(21, &[16, 0, 2], &L), "21 1 20");
+    assert_eq!(call(21, &[16, MOST, MOST], &L), "21 0 3 34");
+    assert_eq!(call(22, &[], &L), format!("22 1 15{}", text(&row)));
+    assert_eq!(call(22, &[], &L[..14]), format!("22 0 3 13{}", text(&[0; 115])));
+    assert_eq!(call(23, &[], &L), "23 1");
+    assert_eq!(call(23, &[], &L[..33]), "23 0 3 33");
+}
+
+/// Steps of a script: a code, and seven words.
+fn script(steps: &[(u8, [u32; 7])]) -> Vec<u8> {
+    let step = |(code, words): &(u8, [u32; 7])| {
+        [vec![*code], words.iter().flat_map(|word| word.to_le_bytes()).collect()].concat()
+    };
+    steps.iter().flat_map(step).collect()
+}
+
+/// Zeros behind these words, up to 32,768.
+fn sum(words: &[u32]) -> u32 {
+    let add = |sum: u32, word: u32| sum.wrapping_mul(3).wrapping_add(word);
+    (0..32_768).fold(0, |sum, k| add(sum, words.get(k).copied().unwrap_or(0)))
+}
+
+#[test]
+fn the_store() {
+    // The first two have the mix 0, so both go to bucket 0.
+    let first = 0u32.wrapping_sub(19);
+    let steps = script(&[
+        (1, [9, 19, first, 0, 0, 0, 0]),
+        (3, [9, 16, 0u32.wrapping_sub(16), 0, 0, 0, 0]),
+        (1, [9, 19, first, 0, 0, 0, 0]),
+        (5, [1, 0, 0, 0, 0, 0, 0]),
+        (5, [0, 1, 0, 0, 0, 0, 0]),
+        (6, [2, 0u32.wrapping_sub(16), 0, 0, 0, 0, 0]),
+    ]);
+    let words = [19, first, 0, 0, 0, 0, 0, 2, 16, 0u32.wrapping_sub(16), 0, 0, 0, 0, 1];
+    let payload = words[9];
+    let line = format!("30 1 1 1 2 2 1 2 1 1 16 {payload} 0 0 0 0 0 0 1 {}", sum(&words));
+    assert_eq!(call(30, &[32_768], &steps), line);
+    let full = script(&[(2, [4_096, 19, 0, 0, 0, 0, 0]), (2, [4_097, 19, 0, 0, 0, 0, 0])]);
+    assert_eq!(call(30, &[32_768], &full), "30 0 24 0 0 0");
+    assert_eq!(call(30, &[32_767], &full), "30 0 25 0 25 0");
+}
+
+#[test]
+fn pairs_and_lines() {
+    let lent = [&[7, 0, 0, 0][..], &L, &L].concat();
+    let enough = [34, 32_768, 33_000, 4_096, 32_768, 1];
+    assert_eq!(call(31, &enough, &lent), "31 0 2 0 0 0 0");
+    let short = [34, 2, 1, 0, 33_000, 0];
+    assert_eq!(call(31, &short, &lent[4..]), "31 2 2 25 0 0 0 0 0");
+    assert_eq!(call(32, &[0, 32_768, 32_768, 4_096, 32_768], b""), "32 2 3 1 0 0 0 0 0");
+    let equal = b"equal 2\n".map(usize::from);
+    assert_eq!(call(33, &[3, 2], b""), format!("33 8{}{}", text(&equal), text(&[0; 56])));
+}
+
+#[test]
+fn records_that_do_not_fit() {
+    assert_eq!(line(&[]), "-");
+    assert_eq!(line(&[5; 48]), "-");
+    assert_eq!(call(0, &[], b""), "0 -");
+    assert_eq!(call(10, &[], &[0; 919]), "10 -");
+    assert_eq!(call(30, &[33_001], b""), "30 -");
+    assert_eq!(call(31, &[1], b""), "31 -");
+    assert_eq!(call(200, &[], b""), "200 -");
+}
+
+/// Counts by the first number of an answer, and of a "no" also its question.
+#[test]
+fn every_entry_is_reached_with_and_without_a_no() {
+    let mut counts = BTreeMap::new();
+    for record in Records::new(3).take(20_000) {
+        let line = line(&record);
+        let words: Vec<_> = line.split(' ').collect();
+        let shown = if words.get(1) == Some(&"0") { 3 } else { 2 };
+        *counts.entry(words[..shown.min(words.len())].join(" ")).or_insert(0usize) += 1;
+    }
+    let count = |kind: &str| counts.get(kind).copied().unwrap_or(0);
+    for entry in [5, 6, 7, 8, 9, 18, 19, 20, 21, 22, 23, 30] {
+        assert!(count(&format!("{entry} 1")) >= 100, "{entry} in {counts:?}");
+    }
+    let noes = ["7 0 10", "8 0 11", "18 0 10", "18 0 12", "19 0 13", "20 0 12", "23 0 9"];
+    let all = ["1 0", "1 1", "30 0 25", "31 1", "31 2", "32 1", "32 2", "-"];
+    for kind in noes.into_iter().chain(all) {
+        assert!(count(kind) >= 5, "{kind} in {counts:?}");
+    }
+}
+
+#[test]
+fn a_seed_fixes_the_records() {
+    let first: Vec<_> = Records::new(9).take(100).collect();
+    assert_eq!(first, Records::new(9).take(100).collect::<Vec<_>>());
+    assert_ne!(first, Records::new(10).take(100).collect::<Vec<_>>());
+}
