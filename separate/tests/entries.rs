@@ -45,6 +45,11 @@ fn single_fields() {
     assert_eq!(call(8, &[1], &[1, 0, 0]), "8 0 11 1");
     assert_eq!(call(8, &[0], &[0xFE, 0xFF]), "8 1 -2 2");
     assert_eq!(call(9, &[0, 2], b"ALP"), "9 1 5262401 3");
+    assert_eq!(call(24, &[MOST], b"ALP"), format!("24 {MOST}"));
+    assert_eq!(call(25, &[2], b"ALP"), "25 1");
+    assert_eq!(call(25, &[MOST], b"ALP"), "25 0");
+    assert_eq!(call(26, &[1], &[0, 0xFF, 0x7F]), "26 1 32767 3");
+    assert_eq!(call(26, &[1], &[0, 0]), "26 0 3 1");
 }
 
 #[test]
@@ -138,7 +143,7 @@ fn every_entry_is_reached_with_and_without_a_no() {
         *counts.entry(words[..shown.min(words.len())].join(" ")).or_insert(0usize) += 1;
     }
     let count = |kind: &str| counts.get(kind).copied().unwrap_or(0);
-    for entry in [5, 6, 7, 8, 9, 18, 19, 20, 21, 22, 23, 30] {
+    for entry in [5, 6, 7, 8, 9, 18, 19, 20, 21, 22, 23, 26, 30] {
         assert!(count(&format!("{entry} 1")) >= 100, "{entry} in {counts:?}");
     }
     let noes = ["7 0 10", "8 0 11", "18 0 10", "18 0 12", "19 0 13", "20 0 12", "23 0 9"];

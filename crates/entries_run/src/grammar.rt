@@ -1,10 +1,14 @@
 // Entries over parts of a program file, and over the whole.
+use crate::cursor::left_at;
+use crate::cursor::place_at;
+use crate::cursor::signed_at;
 use crate::numbers::Args;
 use crate::numbers::refused;
 use crate::numbers::say;
 use crate::numbers::say_field;
 use crate::numbers::say_place;
 use crate::numbers::say_signed;
+use crate::numbers::say_signed_field;
 use crate::numbers::say_small;
 use crate::numbers::wide;
 use crate::tabled::say_tables;
@@ -32,6 +36,24 @@ pub(crate) fn called(entry: usize, x: Args, s: &[u8]) {
         }
         23 => {
             verdict(s);
+        }
+        _ => {
+            standing(entry, x, s);
+        }
+    }
+}
+
+// A `Reader` that stands at a place.
+fn standing(entry: usize, x: Args, s: &[u8]) {
+    match entry {
+        24 => {
+            say(place_at(s, x.a));
+        }
+        25 => {
+            say(left_at(s, x.a));
+        }
+        26 => {
+            say_signed_field(signed_at(s, x.a));
         }
         _ => {
             refused();

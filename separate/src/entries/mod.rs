@@ -114,6 +114,9 @@ impl Line {
                 self.tabled(entry, arguments, &row, s);
             }
             20..=23 => self.part(entry, arguments, s),
+            24 => self.say(arguments[0]),
+            25 => self.say(s.len().saturating_sub(arguments[0])),
+            26 => self.field(fields::i16(s, arguments[0])),
             30 => self.script(arguments, s)?,
             31 | 32 => self.compare(entry, arguments, s)?,
             33 => self.reply_line(arguments),
@@ -199,47 +202,52 @@ impl Line {
 
     /// The count after one call.
     fn step(&mut self, store: &mut Store, count: u32, step: &[u8]) -> u32 {
-        let [given, words @ ..]: [u32; 7] = std::array::from_fn(|k| word_at(step, 1 + 4 * k));
-        let code = step[0] % 7;
-        let before = if code % 2 == 1 { count } else { given };
-        let node: Node = words;
-        match code {
+        let [given, node @ ..]: [u32; 7] = std::array::from_fn(|k| word_at(step, 1 + 4 * k));
+        match step[0] % 7 {
             0 => {
                 store.memory.fill(0);
-                0
+                return 0;
             }
-            1 | 2 => match store.intern(before, node) {
-                Answer::Gives((after, id)) => {
-                    self.say_all([1, after, id]);
-                    after
-                }
-                answer => {
-                    self.no(answer);
-                    before
-                }
-            },
-            3 | 4 => {
-                let (after, id) = match store.intern(before, node) {
-                    Answer::Gives(kept) => kept,
-                    _ => (4_097, 0),
-                };
-                self.say_all([after, id]);
+            1 => return self.intern(store, count, node),
+            2 => return self.intern(store, given, node),
+            3 => return self.put(store, count, node),
+            4 => return self.put(store, given, node),
+            5 => self.node(store.read(number_at(step, 1))),
+            _ => self.say(u8::from(store.starts(given, node[0], node[1]))),
+        }
+        count
+    }
+
+    fn intern(&mut self, store: &mut Store, count: u32, node: Node) -> u32 {
+        match store.intern(count, node) {
+            Answer::Gives((after, id)) => {
+                self.say_all([1, after, id]);
                 after
             }
-            5 => {
-                match store.read(number_at(step, 1)) {
-                    Answer::Gives(node) => {
-                        self.say(1);
-                        self.say_all(node);
-                    }
-                    answer => self.no(answer),
-                }
+            answer => {
+                self.no(answer);
                 count
             }
-            _ => {
-                self.say(u8::from(store.starts(given, words[0], words[1])));
-                count
+        }
+    }
+
+    /// A count above 4,096 says that nothing is stored.
+    fn put(&mut self, store: &mut Store, count: u32, node: Node) -> u32 {
+        let (after, id) = match store.intern(count, node) {
+            Answer::Gives(kept) => kept,
+            _ => (4_097, 0),
+        };
+        self.say_all([after, id]);
+        after
+    }
+
+    fn node(&mut self, answer: Answer<Node>) {
+        match answer {
+            Answer::Gives(node) => {
+                self.say(1);
+                self.say_all(node);
             }
+            answer => self.no(answer),
         }
     }
 

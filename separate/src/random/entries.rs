@@ -15,10 +15,10 @@ const POOL: usize = 32;
 /// Entries with how often each is called. 0 stands for records that no entry
 /// has.
 #[rustfmt::skip]
-const WEIGHTS: [(u8, usize); 28] = [
+const WEIGHTS: [(u8, usize); 31] = [
     (0, 1), (1, 3), (2, 1), (3, 1), (4, 1), (5, 2), (6, 2), (7, 3), (8, 3), (9, 4),
     (10, 2), (11, 2), (12, 3), (13, 3), (14, 3), (15, 4), (16, 3), (17, 2),
-    (18, 12), (19, 12), (20, 6), (21, 5), (22, 6), (23, 6), (30, 8), (31, 3), (32, 3),
+    (18, 12), (19, 12), (20, 6), (21, 5), (22, 6), (23, 6), (24, 1), (25, 2), (26, 2), (30, 8), (31, 3), (32, 3),
     (33, 3),
 ];
 
@@ -44,7 +44,7 @@ impl Iterator for Records {
         let (entry, _) = WEIGHTS[self.random.weighted(&weights)];
         let mut record = match entry {
             0 => self.unfit(),
-            1..=9 => self.single(entry),
+            1..=9 | 24..=26 => self.single(entry),
             10..=17 => self.tabled(entry),
             18 | 19 => self.nested(entry),
             20..=23 => self.part(entry),
@@ -188,7 +188,7 @@ impl Records {
         let length = self.random.below(120);
         let mut record = self.random.bytes(length);
         if let Some(entry) = record.first_mut() {
-            *entry = *self.random.pick(&[0, 10, 18, 24, 29, 30, 31, 34, 255]);
+            *entry = *self.random.pick(&[0, 10, 18, 27, 29, 30, 31, 34, 255]);
         }
         record
     }
@@ -274,7 +274,9 @@ impl Records {
                 let link = |random: &mut Random| random.below(12) as u32;
                 (0..records)
                     .flat_map(|_| {
-                        let node = self.node();
+                        let [array, cell] = self.cell();
+                        let start = [16, array, cell, 0, 0, 0];
+                        let node = if self.random.chance(50) { start } else { self.node() };
                         let links = [link(&mut self.random), link(&mut self.random)];
                         node.into_iter().chain(links)
                     })
@@ -330,7 +332,8 @@ impl Records {
                 [number as u32, ((number as u64) >> 32) as u32, 0, 0, 0, 0, 0]
             }
             6 => {
-                let id = if self.random.chance(80) { self.random.below(8) as u32 } else { count };
+                let low = self.random.below(8) as u32;
+                let id = *self.random.pick(&[low, low, low, count, 4_096]);
                 let [array, cell] = self.cell();
                 [id, array, cell, 0, 0, 0, 0]
             }
