@@ -14,6 +14,7 @@ pub mod Writing
 pub mod Carried
 mod Headers
 mod ListEntries
+mod Clearing
 mod ProgramEntries
 mod Slots
 mod Leaves

@@ -1,7 +1,7 @@
 -- What the entries over programs reply, from what their parts reply.
 use Prim.Native.Nat.{ℕ, _+_, _-_, _*_, _≤_, _<_}
 use native.Mathlib.Omega.{arith}
-use mathlib.Core.Path.{_≡_, refl, ap, _∙_}
+use mathlib.Core.Path.{_≡_, refl, sym, ap, subst, _∙_}
 use mathlib.Core.List.{List}
 use mathlib.Core.Bool.{Bool, true, false}
 use lib.ListN.{length, getD, take, drop, length-drop}
@@ -9,7 +9,7 @@ use lib.Seq.{drop-drop, take-all}
 use borrow.Author.Tests.{lt-leb, le-leb}
 use Rattle.model.specs.Update.{Listed}
 use Rattle.model.specs.Reply as model
-use Rattle.model.specs.Memory.{listWords}
+use Rattle.model.specs.Memory.{listWords, cleared}
 use Rattle.reader.specs.Field.{littleEndian}
 use Rattle.unroller.specs.Run.{Ran, ok, stop}
 use Rattle.unroller.specs.Layout.{layout}
@@ -20,12 +20,13 @@ use Rattle.unroller.proofs.Encode.{decode-layout}
 use Rattle.unroller.proofs.Accepted.{unrolled-allowed}
 use Rattle.comparer.specs.Answers.{replySays}
 use Rattle.comparer.specs.Asked.{Held, Room, Asked}
-use Rattle.comparer.specs.Laying.{Lays}
+use Rattle.comparer.specs.Laying.{Lays, Ended}
 use Rattle.comparer.specs.Entry.{entryReply, programsReply, allBits, inputReply}
 use Rattle.comparer.specs.Headers.{Counted}
 use Rattle.comparer.specs.declared.programs.Laid.the-variants as laid
 use Rattle.comparer.specs.declared.reply.Reply.{Reply}
 use Rattle.comparer.proofs.ListEntries.{decoded-held, held-counted}
+use Rattle.comparer.proofs.Clearing.{ended-layout, ended-zeros}
 
 -- a program's list
 module _ (program list : List ℕ) (h : listWords ≤ length list) where
@@ -52,6 +53,17 @@ module _ (program list : List ℕ) (h : listWords ≤ length list) where
       by : (o : Ran Listed) → unrolled program ≡ o → Unroll.refused s question place ≡ unrollReplyBy o → unrolled program ≡ stop question place
       by (ok l) f g = absurd (let z : _≡_ {A = ℕ} 0 1 = cc in omega arith)
       by (stop question′ place′) f g = cc
+
+  pub leaves-ended : (words : List ℕ) → ((i : ℕ) → getD program i 0 < 256) → words ≡ unrollLeaves program list → Ended words
+  unfolding unrollLeaves
+  leaves-ended words b w = subst Ended (sym w) (by (unrolled program) refl)
+    where
+      by : (o : Ran Listed) → unrolled program ≡ o → Ended (unrollLeaves program list)
+      by (ok l) f = subst Ended (sym (leaves-is l f)) (ended-layout l (length list) (omega arith) (unrolled-allowed program l b f))
+      by (stop question place) f = rw (le-leb listWords (length list) h, f) (ended-zeros (length list) (omega arith))
+
+pub ended-cleared : (list words : List ℕ) → listWords ≤ length list → words ≡ cleared list → Ended words
+ended-cleared list words h w = subst Ended (sym w) (ended-zeros (length list) (omega arith))
 
 -- two programs
 module _ (left right : List ℕ) (mask : ℕ) where

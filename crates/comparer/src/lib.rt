@@ -3,6 +3,7 @@ mod compare;
 mod evaluate;
 mod line;
 mod lists;
+mod memory;
 mod programs;
 pub mod reply;
 mod tables;

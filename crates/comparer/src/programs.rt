@@ -1,6 +1,7 @@
 // Two programs, or both in one framed input: question 1, then 2 to 21 of each, then 22 to 24.
 use crate::lists::compared;
 use crate::lists::long_enough;
+use crate::memory::clear_used;
 use crate::reply::Reply;
 use crate::reply::Side;
 use model::memory::clear;
@@ -12,7 +13,7 @@ ghost use Prim.Native.Nat.{_≤_};
 ghost use lib.ListN.{length};
 ghost use Rattle.model.specs.Memory.{cleared, listWords, workLeft};
 ghost use Rattle.comparer.specs.Answers.{replySays};
-ghost use Rattle.comparer.specs.Laying.{Lays};
+ghost use Rattle.comparer.specs.Laying.{Lays, Ended};
 ghost use Rattle.comparer.specs.Entry.{enoughLent, entryReply, programsReply, allBits, inputReply};
 
 // A program's list is laid out, or question and place of its refusal.
@@ -24,6 +25,7 @@ pub(crate) enum Laid {
 fn lay_out(program: &[u8], list: &mut [u32]) -> Laid
     requires { ⌜ listWords ≤ length (now list) ⌝ }
     ensures { λ r. ⌜ Lays (now (program .entry)) (now (list .exit)) r ⌝ }
+    ensures { λ _. ⌜ Ended (now (list .exit)) ⌝ }
 {
     match unroll(program, list) {
         Unrolled::Updates(_) => Laid::Out,
@@ -44,26 +46,18 @@ fn unrolled_reply(
 ) -> Reply
     requires { ⌜ enoughLent (now «left_list») (now «right_list») (now cells) (now terms) ≡ true ⌝ }
     ensures { λ r. ⌜ replySays r ≡ programsReply mask (now (left .entry)) (now (right .entry)) ⌝ }
+    ensures { λ _. ⌜ Ended (now («left_list» .exit)) × Ended (now («right_list» .exit)) ⌝ }
 {
     match lay_out(left, left_list) {
-        Laid::Not(k, p) => Reply::Refused(Side::Left, k, p),
+        Laid::Not(k, p) => {
+            clear(right_list);
+            Reply::Refused(Side::Left, k, p)
+        }
         Laid::Out => match lay_out(right, right_list) {
             Laid::Not(k, p) => Reply::Refused(Side::Right, k, p),
             Laid::Out => compared(left_list, right_list, mask, cells, terms),
         },
     }
-}
-
-fn clear_all(left_list: &mut [u32], right_list: &mut [u32], cells: &mut [u32], terms: &mut [u32])
-    ensures { λ _. ⌜ now («left_list» .exit) ≡ cleared (now («left_list» .entry)) ⌝ }
-    ensures { λ _. ⌜ now («right_list» .exit) ≡ cleared (now («right_list» .entry)) ⌝ }
-    ensures { λ _. ⌜ now (cells .exit) ≡ cleared (now (cells .entry)) ⌝ }
-    ensures { λ _. ⌜ now (terms .exit) ≡ cleared (now (terms .entry)) ⌝ }
-{
-    clear(left_list);
-    clear(right_list);
-    clear(cells);
-    clear(terms);
 }
 
 pub fn compare_programs_masked(
@@ -85,7 +79,7 @@ pub fn compare_programs_masked(
         return Reply::Refused(Side::Both, 25, 0);
     }
     let reply = unrolled_reply(left, right, mask, left_list, right_list, cells, terms);
-    clear_all(left_list, right_list, cells, terms);
+    clear_used(left_list, right_list, cells, terms);
     reply
 }
 
@@ -113,6 +107,17 @@ fn wide(x: u8) -> usize
     x as usize
 }
 
+// A refusal before any program is read.
+fn unframed(reply: Reply, left_list: &mut [u32], right_list: &mut [u32]) -> Reply
+    ensures { λ r. ⌜ r ≡ reply ⌝ }
+    ensures { λ _. ⌜ now («left_list» .exit) ≡ cleared (now («left_list» .entry)) ⌝ }
+    ensures { λ _. ⌜ now («right_list» .exit) ≡ cleared (now («right_list» .entry)) ⌝ }
+{
+    clear(left_list);
+    clear(right_list);
+    reply
+}
+
 // The left's length in two bytes, the left, and the right up to the end.
 fn framed_reply(
     input: &[u8],
@@ -123,17 +128,18 @@ fn framed_reply(
 ) -> Reply
     requires { ⌜ enoughLent (now «left_list») (now «right_list») (now cells) (now terms) ≡ true ⌝ }
     ensures { λ r. ⌜ replySays r ≡ inputReply (now (input .entry)) ⌝ }
+    ensures { λ _. ⌜ Ended (now («left_list» .exit)) × Ended (now («right_list» .exit)) ⌝ }
 {
     if input.len() < 2 {
-        return Reply::Refused(Side::Input, 1, 0);
+        return unframed(Reply::Refused(Side::Input, 1, 0), left_list, right_list);
     }
     let n = wide(input[0]) + 256 * wide(input[1]);
     if 16384 < n {
-        return Reply::Refused(Side::Left, 2, 0);
+        return unframed(Reply::Refused(Side::Left, 2, 0), left_list, right_list);
     }
     let end = 2 + n;
     if input.len() < end {
-        return Reply::Refused(Side::Input, 1, 0);
+        return unframed(Reply::Refused(Side::Input, 1, 0), left_list, right_list);
     }
     unrolled_reply(
         &input[2..end],
@@ -163,6 +169,6 @@ pub fn compare_input(
         return Reply::Refused(Side::Both, 25, 0);
     }
     let reply = framed_reply(input, left_list, right_list, cells, terms);
-    clear_all(left_list, right_list, cells, terms);
+    clear_used(left_list, right_list, cells, terms);
     reply
 }
