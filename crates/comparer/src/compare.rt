@@ -133,8 +133,9 @@ fn first_array(
     ensures { λ r. ⌜ FirstArray (now (list .entry)) mask (now (lefts .entry)) (now (rights .entry)) (now (left .entry)) (now (right .entry)) (now (terms .entry)) 0 0 r ⌝ }
 {
     let count = wide(list[17]);
+    // No list that was checked or unrolled; it must not pass for equal.
     if count > 16 {
-        return Reply::Equal(0);
+        return Reply::Refused(Side::Left, 26, 0);
     }
     let mut a: usize = 0;
     let mut sum: usize = 0;
@@ -162,14 +163,15 @@ pub(crate) fn match_lists(
 ) -> Reply
     ensures { λ r. ⌜ Matches (now (left .entry)) (now (right .entry)) mask (now (cells .entry)) (now (terms .entry)) r ⌝ }
 {
+    // 25 is asked before; what it refuses must not pass for equal.
     if left.len() < 98 {
-        return Reply::Equal(0);
+        return Reply::Refused(Side::Both, 25, 0);
     }
     if right.len() < 98 {
-        return Reply::Equal(0);
+        return Reply::Refused(Side::Both, 25, 0);
     }
     if cells.len() < 4096 {
-        return Reply::Equal(0);
+        return Reply::Refused(Side::Both, 25, 0);
     }
     let lefts = bases_of(left);
     let rights = bases_of(right);
