@@ -17,7 +17,7 @@ fn case(name: &[u8], program: &[u8]) {
     }
 }
 
-pub fn accepted() {
+pub(crate) fn accepted() {
     case(
         b"L",
         b"ALP\x01\x00\x00\x02\x00\x01\x02\x00\x01\x01\x02\x00\x02\x00\x00\x01\x00\x01\x00\x01\x01\x00\x00\x01\x10\x00\x00\x00\x01\x00\x00",
@@ -36,7 +36,7 @@ pub fn accepted() {
     );
 }
 
-pub fn refused() {
+pub(crate) fn refused() {
     case(
         b"20=00",
         b"ALP\x01\x00\x00\x02\x00\x01\x02\x00\x01\x01\x02\x00\x02\x00\x00\x01\x00\x00\x00\x01\x01\x00\x00\x01\x10\x00\x00\x00\x01\x00\x00",
@@ -55,7 +55,7 @@ pub fn refused() {
     );
 }
 
-pub fn cut_and_longer() {
+pub(crate) fn cut_and_longer() {
     case(
         b"without the last byte",
         b"ALP\x01\x00\x00\x02\x00\x01\x02\x00\x01\x01\x02\x00\x02\x00\x00\x01\x00\x01\x00\x01\x01\x00\x00\x01\x10\x00\x00\x00\x01\x00",
@@ -67,7 +67,7 @@ pub fn cut_and_longer() {
     case(b"empty", b"");
 }
 
-pub fn marks() {
+pub(crate) fn marks() {
     case(b"mark cut", b"AL");
     case(
         b"mark wrong",
@@ -77,13 +77,13 @@ pub fn marks() {
     case(b"operator count missing", b"ALP\x01\x00");
 }
 
-pub fn operators() {
+pub(crate) fn operators() {
     case(b"arity missing", b"ALP\x01\x00\x01");
     case(b"arity 0", b"ALP\x01\x00\x01\x00");
     case(b"arity 5", b"ALP\x01\x00\x02\x04\x05");
 }
 
-pub fn roles() {
+pub(crate) fn roles() {
     case(
         b"array count 0",
         b"ALP\x01\x00\x00\x00\x00\x01\x02\x00\x01\x01\x02\x00\x02\x00\x00\x01\x00\x01\x00\x01\x01\x00\x00\x01\x10\x00\x00\x00\x01\x00\x00",
@@ -106,7 +106,7 @@ pub fn roles() {
     );
 }
 
-pub fn dimensions() {
+pub(crate) fn dimensions() {
     case(
         b"dimensions 0",
         b"ALP\x01\x00\x00\x02\x00\x00\x02\x00\x01\x01\x02\x00\x02\x00\x00\x01\x00\x01\x00\x01\x01\x00\x00\x01\x10\x00\x00\x00\x01\x00\x00",
@@ -126,7 +126,7 @@ pub fn dimensions() {
     case(b"extent cut", b"ALP\x01\x00\x00\x02\x00\x01\x02");
 }
 
-pub fn sizes() {
+pub(crate) fn sizes() {
     case(
         b"1024 and 1024 cells",
         b"ALP\x01\x00\x00\x02\x00\x01\x00\x04\x01\x01\x00\x04\x00",
@@ -145,7 +145,7 @@ pub fn sizes() {
     );
 }
 
-pub fn nesting() {
+pub(crate) fn nesting() {
     case(b"code missing", b"ALP\x01\x00\x00\x01\x01\x01\x01\x00");
     case(b"code 4", b"ALP\x01\x00\x00\x01\x01\x01\x01\x00\x04");
     case(
@@ -166,7 +166,7 @@ pub fn nesting() {
     );
 }
 
-pub fn targets() {
+pub(crate) fn targets() {
     case(
         b"target missing",
         b"ALP\x01\x00\x00\x01\x01\x01\x01\x00\x01",
@@ -182,7 +182,7 @@ pub fn targets() {
     );
 }
 
-pub fn loops_and_guards() {
+pub(crate) fn loops_and_guards() {
     case(
         b"step cut",
         b"ALP\x01\x00\x00\x01\x01\x01\x01\x00\x02\x00\x00\x00\x00\x01",
@@ -201,7 +201,7 @@ pub fn loops_and_guards() {
     );
 }
 
-pub fn nodes() {
+pub(crate) fn nodes() {
     case(
         b"expression missing",
         b"ALP\x01\x00\x00\x01\x01\x01\x01\x00\x01\x00\x00\x00",
@@ -224,7 +224,7 @@ pub fn nodes() {
     );
 }
 
-pub fn operators_deep() {
+pub(crate) fn operators_deep() {
     case(
         b"operators 12 deep",
         b"ALP\x01\x00\x01\x01\x01\x01\x01\x01\x00\x01\x00\x00\x00\x11\x00\x11\x00\x11\x00\x11\x00\x11\x00\x11\x00\x11\x00\x11\x00\x11\x00\x11\x00\x11\x00\x11\x00\x13\x01\x00\x00\x00\x00",
@@ -239,7 +239,7 @@ pub fn operators_deep() {
     );
 }
 
-pub fn ends() {
+pub(crate) fn ends() {
     case(
         b"name cut",
         b"ALP\x01\x00\x00\x01\x01\x01\x01\x00\x01\x00\x00\x00\x13\x01\x00\x00",
@@ -255,7 +255,7 @@ pub fn ends() {
 }
 
 // 16,384 bytes are read; one more is too many.
-pub fn lengths() {
+pub(crate) fn lengths() {
     let most = [0x41u8; 16384];
     case(b"16384 bytes", &most);
     let more = [0x41u8; 16385];
