@@ -24,12 +24,18 @@ impl Histogram {
         *self.0.entry(kind).or_insert(0) += 1;
     }
 
-    fn print(&self, entry: &str) {
+    /// The kinds of the replies, if there are as many as asked for.
+    fn print(&self, entry: &str, asked: usize) -> Result<(), Difference> {
+        let came: usize = self.0.values().sum();
+        if came != asked {
+            return Err(format!("{entry}: {came} replies of {asked}"));
+        }
         let kinds = self.0.iter().map(|(&(question, kind), count)| match question {
             0 => format!("{kind} {count}"),
             _ => format!("{question}: {count}"),
         });
         println!("  {entry}: {}", kinds.collect::<Vec<_>>().join(", "));
+        Ok(())
     }
 }
 
@@ -65,9 +71,8 @@ impl Test {
             unrolled.add(other);
         }
         println!("{count} program pairs, seed {seed}: the same replies and memory");
-        compared.print("compare_programs");
-        unrolled.print("unroll");
-        Ok(())
+        compared.print("compare_programs", count)?;
+        unrolled.print("unroll", 2 * count)
     }
 
     /// Lists beside new orders of theirs, changed, damaged, cut off, in slices long and short; each is also checked alone.
@@ -90,9 +95,8 @@ impl Test {
             checked.add(other);
         }
         println!("{count} list pairs, seed {seed}: the same replies and memory");
-        compared.print("compare_lists");
-        checked.print("check_list");
-        Ok(())
+        compared.print("compare_lists", count)?;
+        checked.print("check_list", 2 * count)
     }
 
     /// Zeros from some word of the list on: often between two updates, where a shorter list is left.
