@@ -1,5 +1,6 @@
 use native.Mathlib.Omega.{arith}
 use mathlib.Core.Path.{_≡_, refl, sym, ap, _∙_}
+use Rattle.reader.proofs.Computed.{next-place}
 use Rattle.reader.proofs.Bytes.{byte-is, byte-not}
 use Prim.Native.Nat.{ℕ, _+_, _-_, _*_, _<_, _≤_}
 use lib.ListN.{length, getD}
@@ -18,10 +19,10 @@ add-t9 : tie.Need-add-t9
 add-t9 c = search needs
 
 returns : tie.Need-returns
-returns c = ap (λ (x : ℕ). got x (c .before .before .before .before .args .at + 1)) (c .wide .ensures) ∙ byte-is _ _ (c .before .before .if1 .taken)
+returns c = next-place (ap (λ (x : ℕ). got x (c .before .before .before .before .args .at + 1)) (c .wide .ensures) ∙ byte-is _ _ (omega (arith, c .before .before .if1 .taken))) (omega arith)
 
 returns-2 : tie.Need-returns-2
-returns-2 c = byte-not _ _ (c .if1 .left)
+returns-2 c = byte-not _ _ (omega (arith, c .if1 .left))
 
 pub byte-at-spec : {M : Type 1} → statement M
 byte-at-spec = tie.close (tie.spec shared-slice-read-wide wide-requires add-t9 returns returns-2)

@@ -2,6 +2,7 @@ use native.Mathlib.Omega.{arith}
 use mathlib.Core.Path.{_≡_, refl, sym, ap, _∙_}
 use borrow.Author.Tests.{lt-ltb, le-ltb, le-leb, lt-leb, leb-true, leb-false, eq-eqb, ne-eqb}
 use Rattle.reader.proofs.Bytes.{u32-is, u32-not}
+use Rattle.reader.proofs.Computed.{four-places, next-place}
 use Rattle.reader.proofs.Numbers.{room}
 use Prim.Native.Nat.{ℕ, _+_, _-_, _*_, _<_, _≤_}
 use lib.ListN.{length, getD}
@@ -41,7 +42,7 @@ add-t17 : tie.Need-add-t17
 add-t17 c = omega (arith, room (c .before .before .before .before .before .before .before .before .args .s .now) (c .before .before .before .before .before .before .before .before .args .at) 4 (c .before .before .before .before .before .before .has .ensures) (c .before .before .before .before .before .if1 .taken))
 
 returns : tie.Need-returns
-returns c = ap (λ (x : ℕ). got x (c .before .before .before .before .before .before .before .before .args .at + 4)) (c .quad .ensures) ∙ u32-is _ _ (sym (c .before .before .before .before .before .before .has .ensures) ∙ c .before .before .before .before .before .if1 .taken)
+returns c = next-place (ap (λ (x : ℕ). got x (c .before .before .before .before .before .before .before .before .args .at + 4)) (four-places (c .before .before .before .before .before .before .before .before .args .s .now) (c .before .before .before .before .before .before .before .before .args .at) (c .quad .ensures) (omega arith) (omega arith) (omega arith)) ∙ u32-is _ _ (sym (c .before .before .before .before .before .before .has .ensures) ∙ c .before .before .before .before .before .if1 .taken)) (omega arith)
 
 returns-2 : tie.Need-returns-2
 returns-2 c = u32-not _ _ (sym (c .before .has .ensures) ∙ c .if1 .left)

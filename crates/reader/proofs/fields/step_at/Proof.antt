@@ -37,12 +37,12 @@ add-t14 : tie.Need-add-t14
 add-t14 c = omega (arith, room (c .before .before .before .before .before .before .before .before .args .s .now) (c .before .before .before .before .before .before .before .before .args .at) 2 (c .before .before .before .before .before .before .has .ensures) (c .before .before .before .before .before .if1 .taken))
 
 returns : tie.Need-returns
-returns c = step-zero _ _ (ap (λ (w : ℕ). got (toZ w16 w) (c .before .before .before .before .before .before .before .args .at + 2)) (sym (c .if2 .taken) ∙ c .before .pair .ensures) ∙ i16-is _ _ (sym (c .before .before .before .before .before .has .ensures) ∙ c .before .before .before .before .if1 .taken))
+returns c = step-zero _ _ (ap (λ (w : ℕ). got (toZ w16 w) (c .before .before .before .before .before .before .before .args .at + 2)) (let z : 0 ≡ c .before .pair .result = omega (arith, c .if2 .taken) in z ∙ c .before .pair .ensures) ∙ i16-is _ _ (sym (c .before .before .before .before .before .has .ensures) ∙ c .before .before .before .before .if1 .taken))
 
 returns-2 : tie.Need-returns-2
 returns-2 c = let e = toZ-ofZ (sfits-of (c .i16-of .ok)) ∙ c .i16-of .ensures in
     step-is _ _ _ (ap (λ (z : ℤ). got z (c .before .before .before .before .before .before .before .before .args .at + 2)) (e ∙ ap (toZ w16) (c .before .before .pair .ensures)) ∙ i16-is _ _ (sym (c .before .before .before .before .before .before .has .ensures) ∙ c .before .before .before .before .before .if1 .taken))
-    (λ z. c .before .if2 .left (zero-16 _ (record { fits = c .before .before .pair .ok }) (sym e ∙ z)))
+    (λ z. let w = zero-16 _ (record { fits = c .before .before .pair .ok }) (sym e ∙ z) in let l = c .before .if2 .left in absurd (omega arith))
 
 returns-3 : tie.Need-returns-3
 returns-3 c = step-short _ _ (sym (c .before .has .ensures) ∙ c .if1 .left)

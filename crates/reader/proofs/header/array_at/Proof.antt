@@ -72,7 +72,7 @@ returns-4 : tie.Need-returns-4
 returns-4 c = let v = extents-is (c .before .before .before .before .before .before .before .dimensions .given .0 .0) _ (c .before .before .before .before .before .extents-at .result) (c .before .before .before .before .before .extents-at .ensures) (c .before .before .answer2 .given .1) in
     let w = within-is 1 3 (c .before .before .before .before .before .before .before .dimensions .given .0 .0) (held-got (λ x n. within 1 3 x ≡ true) (checked-held _ _ _ _) (field-got (c .before .before .before .before .before .before .before .before .before .count-at .ensures) (c .before .before .before .before .before .before .before .dimensions .given .1))) in
     let b = held-got (λ x n. roleTest (c .before .before .before .before .before .before .before .before .before .before .before .before .before .before .before .args .after) x ≡ true) (checked-held _ _ _ _) (field-got (c .before .before .before .before .before .before .before .before .before .before .before .before .before .role-at .ensures) (c .before .before .before .before .before .before .before .before .before .before .before .role .given .1)) in
-    array-given _ _ (array-all _ _ _ _ (field-got (c .before .before .before .before .before .before .before .before .before .before .before .before .before .role-at .ensures) (c .before .before .before .before .before .before .before .before .before .before .before .role .given .1)) (field-got (c .before .before .before .before .before .before .before .before .before .count-at .ensures) (c .before .before .before .before .before .before .before .dimensions .given .1)) (v .1) (omega (arith, v .4, c .if1 .taken))) refl refl (role-below _ (c .before .before .before .before .before .before .before .before .before .before .before .before .before .before .before .args .after) b) (sym (v .3)) (omega (arith, v .3, w .1)) (v .2) (v .4) (c .if1 .taken)
+    array-given (c .before .before .before .before .before .before .before .before .before .before .before .before .before .before .before .args .before) _ (array-all _ _ _ _ (field-got (c .before .before .before .before .before .before .before .before .before .before .before .before .before .role-at .ensures) (c .before .before .before .before .before .before .before .before .before .before .before .role .given .1)) (field-got (c .before .before .before .before .before .before .before .before .before .count-at .ensures) (c .before .before .before .before .before .before .before .dimensions .given .1)) (v .1) (omega (arith, v .4, c .if1 .taken))) refl refl (role-below _ (c .before .before .before .before .before .before .before .before .before .before .before .before .before .before .before .args .after) b) (sym (v .3)) (omega (arith, v .3, w .1)) (v .2) (v .4) (omega (arith, c .if1 .taken))
 
 returns-5 : tie.Need-returns-5
 returns-5 c = let v = extents-is (c .before .before .before .before .before .before .before .before .dimensions .given .0 .0) _ (c .before .before .before .before .before .before .extents-at .result) (c .before .before .before .before .before .before .extents-at .ensures) (c .before .before .before .answer2 .given .1) in

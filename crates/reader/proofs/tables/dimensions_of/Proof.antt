@@ -1,6 +1,7 @@
+use Prim.Native.Nat.{_+_}
 use native.Mathlib.Omega.{arith}
 use borrow.Author.Needs.{needs}
-use mathlib.Core.Path.{_∙_}
+use Rattle.reader.proofs.Computed.{cut-at-place}
 use Rattle.reader.proofs.Flattened.{arrays-in, dimensions-at, dimensions-none}
 use Rattle.reader.proofs.tables.dimensions_of.Statement.{statement}
 use Rattle.reader.proofs.tables.dimensions_of.Tie as tie
@@ -21,7 +22,7 @@ at-most-requires : tie.Need-at-most-requires
 at-most-requires c κs = search needs
 
 returns : tie.Need-returns
-returns c = c .at-most .ensures ∙ dimensions-at (c .before .before .before .before .args .tables .now) (c .before .before .before .before .args .array) (omega arith)
+returns c = cut-at-place (c .before .before .before .before .args .tables .now) _ (34 + c .before .before .before .before .args .array) _ (c .at-most .ensures) (dimensions-at (c .before .before .before .before .args .tables .now) (c .before .before .before .before .args .array) (omega arith)) (omega arith)
 
 returns-2 : tie.Need-returns-2
 returns-2 c = dimensions-none (c .before .before .args .tables .now) (c .before .before .args .array) (omega arith)

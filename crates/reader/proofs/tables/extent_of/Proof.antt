@@ -1,6 +1,7 @@
+use Prim.Native.Nat.{_+_, _*_}
 use native.Mathlib.Omega.{arith}
 use borrow.Author.Needs.{needs}
-use mathlib.Core.Path.{_∙_}
+use Rattle.reader.proofs.Computed.{cut-at-place}
 use Rattle.reader.proofs.Flattened.{extent-room, extent-at, extent-few, extent-not}
 use Rattle.reader.proofs.tables.extent_of.Statement.{statement}
 use Rattle.reader.proofs.tables.extent_of.Tie as tie
@@ -30,7 +31,7 @@ at-most-requires : tie.Need-at-most-requires
 at-most-requires c κs = search needs
 
 returns : tie.Need-returns
-returns c = (c .at-most .ensures ∙ extent-at (c .before .before .before .before .before .before .args .tables .now) (c .before .before .before .before .before .before .args .array) (c .before .before .before .before .before .before .args .dimension) (omega arith) (omega arith), omega (arith, c .at-most .ensures))
+returns c = (cut-at-place (c .before .before .before .before .before .before .args .tables .now) _ (50 + 3 * c .before .before .before .before .before .before .args .array + c .before .before .before .before .before .before .args .dimension) _ (c .at-most .ensures) (extent-at (c .before .before .before .before .before .before .args .tables .now) (c .before .before .before .before .before .before .args .array) (c .before .before .before .before .before .before .args .dimension) (omega arith) (omega arith)) (omega arith), omega (arith, c .at-most .ensures))
 
 returns-2 : tie.Need-returns-2
 returns-2 c = (extent-few (c .before .before .before .before .args .tables .now) (c .before .before .before .before .args .array) (c .before .before .before .before .args .dimension) (omega arith), omega arith)
