@@ -28,6 +28,9 @@ emptied-at (suc n) [] j h k = absurd (omega arith)
 emptied-at (suc n) (x ∷ l) zero h k = absurd (omega arith)
 emptied-at (suc n) (x ∷ l) (suc j) h k = emptied-at n l j (omega arith) (omega arith)
 
+pub emptied-to : (words l : List ℕ) (i j : ℕ) → l ≡ emptied j words → i ≡ j → l ≡ emptied i words
+emptied-to words l i j e f = rw f e
+
 pub emptied-again : (n : ℕ) (l : List ℕ) → n ≤ length l → emptied n l ≡ emptied n (emptied n l)
 emptied-again zero l h = refl
 emptied-again (suc n) [] h = absurd (omega arith)

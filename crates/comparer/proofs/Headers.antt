@@ -154,9 +154,9 @@ extents-few (x ∷ xs) (suc a) e l = extents-few xs a (parts.both (allowedArray 
 
 module _ (left right : List ℕ) where
   -- Same non-local arrays? An array is five words.
-  pub arrays-tell : (n m i : ℕ) (r : Table) → Leads left n → Leads right m → FirstApart left right 18 (18 + 5 * min n m) i → Ends ((i - 18) / 5) n m r → ArraysTell left right r
+  pub arrays-tell : (n m i : ℕ) (r : Table) → Leads left n → Leads right m → (end : ℕ) → FirstApart left right 18 end i → end ≡ 18 + 5 * min n m → Ends ((i - 18) / 5) n m r → ArraysTell left right r
   unfolding ArraysTell Same
-  arrays-tell n m i r p q f e x y h g agreed =
+  arrays-tell n m i r p q end f within e x y h g agreed =
       let k : ℕ = (i - 18) / 5 in
       let xs = x .arrays in
       let ys = y .arrays in

@@ -58,15 +58,15 @@ module _ (line : Line) (s : List ℕ) where
   text-all r i h k a = let e : i ≡ length s = omega arith in rw (e, take-length) at a
 
 -- one digit
-pub number-last : (line r : Line) (n : ℕ) → n < 10 → Adds line ((48 + n) ∷ []) r → AddsNumber line n r
+pub number-last : (line r : Line) (n b : ℕ) → n < 10 → Adds line (b ∷ []) r → b ≡ 48 + n → AddsNumber line n r
 unfolding AddsNumber
-number-last line r n h a k l = rw (digits, lt-ltb n 10 h) a
+number-last line r n b h a e k l = rw (digits, lt-ltb n 10 h, sym e) a
 
 -- all digits but the last, then the last
-pub number-more : (line mid r : Line) (n : ℕ) → 10 ≤ n → AddsNumber line (n / 10) mid → Adds mid ((48 + n % 10) ∷ []) r → AddsNumber line n r
+pub number-more : (line mid r : Line) (n b : ℕ) → 10 ≤ n → AddsNumber line (n / 10) mid → Adds mid (b ∷ []) r → b ≡ 48 + n % 10 → AddsNumber line n r
 unfolding AddsNumber
-number-more line mid r n h a b zero l = absurd (omega arith)
-number-more line mid r n h a b (suc k) l = rw (digits, le-ltb n 10 h) (adds-more line mid r (digits (suc k) (n / 10)) ((48 + n % 10) ∷ []) (a k (omega arith)) b)
+number-more line mid r n d h a b e zero l = absurd (omega arith)
+number-more line mid r n d h a b e (suc k) l = rw (digits, le-ltb n 10 h, sym e) (adds-more line mid r (digits (suc k) (n / 10)) (d ∷ []) (a k (omega arith)) b)
 
 pub spaced-adds : (line mid r : Line) (n : ℕ) → n < 18446744073709551616 → Adds line (0x20 ∷ []) mid → AddsNumber mid n r → Adds line (spaced (decimal n)) r
 unfolding AddsNumber

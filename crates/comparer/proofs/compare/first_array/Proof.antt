@@ -1,6 +1,6 @@
 use borrow.Author.Needs.{needs}
 use native.Mathlib.Omega.{arith}
-use mathlib.Core.Path.{sym, _∙_, subst}
+use mathlib.Core.Path.{_≡_, sym, _∙_, subst}
 use mathlib.Core.Logic.{⊎-elim}
 use Prim.Native.Nat.{ℕ, _+_, _*_, _-_, _≤_}
 use Rattle.comparer.specs.declared.reply.Reply.{Reply}
@@ -70,7 +70,7 @@ loop-again c = ⊎-elim
       omega (arith, w .6, w .1 .ensures .1),
       λ x F. c .before .before .before .loop .inv .3 x
           (array-more (c .before .before .before .before .before .before .before .before .before .before .before .args .list .now) (c .before .before .before .before .before .before .before .before .before .before .before .args .mask) (c .before .before .before .before .before .before .before .before .before .before .before .args .lefts .now) (c .before .before .before .before .before .before .before .before .before .before .before .args .rights .now) (c .before .before .before .before .before .before .before .before .before .before .before .args .left .now) (c .before .before .before .before .before .before .before .before .before .before .before .args .right .now) (c .before .before .before .before .before .before .before .before .before .before .before .args .terms .now) _ (c .before .before .before .before .before .wide .ensures) (c .before .before .before .loop .a) (c .before .before .before .loop .sum) (c .before .before .loop-test .taken) (sym (w .0 .taken) ∙ c .before .is-compared .ensures) _ (w .1 .ensures .0) _ (w .4 .ensures) (w .5 .left) x
-          (subst (λ (k : ℕ). FirstArray (c .before .before .before .before .before .before .before .before .before .before .before .args .list .now) (c .before .before .before .before .before .before .before .before .before .before .before .args .mask) (c .before .before .before .before .before .before .before .before .before .before .before .args .lefts .now) (c .before .before .before .before .before .before .before .before .before .before .before .args .rights .now) (c .before .before .before .before .before .before .before .before .before .before .before .args .left .now) (c .before .before .before .before .before .before .before .before .before .before .before .args .right .now) (c .before .before .before .before .before .before .before .before .before .before .before .args .terms .now) (c .before .before .before .loop .a + 1) k x) (w .6) F)),
+          (subst (λ (k : ℕ). FirstArray (c .before .before .before .before .before .before .before .before .before .before .before .args .list .now) (c .before .before .before .before .before .before .before .before .before .before .before .args .mask) (c .before .before .before .before .before .before .before .before .before .before .before .args .lefts .now) (c .before .before .before .before .before .before .before .before .before .before .before .args .rights .now) (c .before .before .before .before .before .before .before .before .before .before .before .args .left .now) (c .before .before .before .before .before .before .before .before .before .before .before .args .right .now) (c .before .before .before .before .before .before .before .before .before .before .before .args .terms .now) (c .before .before .before .loop .a + 1) k x) (let e : c .if2 .sum ≡ c .before .before .before .loop .sum + w .1 .result = omega (arith, w .6) in e) F)),
     ))
     (λ w. (
       omega arith,

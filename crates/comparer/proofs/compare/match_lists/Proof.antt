@@ -1,3 +1,4 @@
+use native.Mathlib.Omega.{arith}
 use Rattle.comparer.proofs.Whole.{match-left, match-right, match-cells, match-full, match-over, match-done}
 use borrow.Author.Needs.{needs}
 use Rattle.comparer.proofs.compare.match_lists.Statement.{statement}
@@ -37,7 +38,7 @@ same-length-2 : tie.Need-same-length-2
 same-length-2 c = search needs
 
 returns-4 : tie.Need-returns-4
-returns-4 c = match-full _ _ _ (c .before .before .before .before .before .before .before .before .before .before .before .before .before .before .before .before .before .before .args .cells .now) _ _ _ (c .before .before .before .before .before .before .before .before .before .before .bases-of .ensures) (c .before .before .before .before .before .before .before .before .before .bases-of2 .ensures) (c .before .before .before .before .before .apply-updates .last .1 .1 .0) _ _ (c .before .before .before .before .before .apply-updates .ensures) (c .before .before .before .before .before .before .before .before .before .before .before .if3 .left) (c .if4 .taken)
+returns-4 c = match-full _ _ _ (c .before .before .before .before .before .before .before .before .before .before .before .before .before .before .before .before .before .before .args .cells .now) _ _ _ (c .before .before .before .before .before .before .before .before .before .before .bases-of .ensures) (c .before .before .before .before .before .before .before .before .before .bases-of2 .ensures) (c .before .before .before .before .before .apply-updates .last .1 .1 .0) _ _ (c .before .before .before .before .before .apply-updates .ensures) (c .before .before .before .before .before .before .before .before .before .before .before .if3 .left) (omega (arith, c .if4 .taken))
 
 sub-apply-updates-2 : tie.Need-sub-apply-updates-2
 sub-apply-updates-2 c = search needs
@@ -58,7 +59,7 @@ same-length-4 : tie.Need-same-length-4
 same-length-4 c = search needs
 
 returns-5 : tie.Need-returns-5
-returns-5 c = match-over _ _ _ (c .before .before .before .before .before .before .before .before .before .before .before .before .before .before .before .before .before .before .before .before .before .before .before .before .before .before .before .args .cells .now) _ _ _ (c .before .before .before .before .before .before .before .before .before .before .before .before .before .before .before .before .before .before .before .bases-of .ensures) (c .before .before .before .before .before .before .before .before .before .before .before .before .before .before .before .before .before .before .bases-of2 .ensures) (c .before .before .before .before .before .before .before .before .before .before .before .before .before .before .apply-updates .last .1 .1 .0) _ _ (c .before .before .before .before .before .before .before .before .before .before .before .before .before .before .apply-updates .ensures) (c .before .before .before .before .before .before .before .before .before .before .before .before .before .before .before .before .before .before .before .before .if3 .left) (c .before .before .before .before .before .before .before .before .before .if4 .left) (search needs) (c .before .before .before .before .before .apply-updates2 .last .1 .1 .0) _ _ (c .before .before .before .before .before .apply-updates2 .ensures) (c .if5 .taken)
+returns-5 c = match-over _ _ _ (c .before .before .before .before .before .before .before .before .before .before .before .before .before .before .before .before .before .before .before .before .before .before .before .before .before .before .before .args .cells .now) _ _ _ (c .before .before .before .before .before .before .before .before .before .before .before .before .before .before .before .before .before .before .before .bases-of .ensures) (c .before .before .before .before .before .before .before .before .before .before .before .before .before .before .before .before .before .before .bases-of2 .ensures) (c .before .before .before .before .before .before .before .before .before .before .before .before .before .before .apply-updates .last .1 .1 .0) _ _ (c .before .before .before .before .before .before .before .before .before .before .before .before .before .before .apply-updates .ensures) (c .before .before .before .before .before .before .before .before .before .before .before .before .before .before .before .before .before .before .before .before .if3 .left) (omega (arith, c .before .before .before .before .before .before .before .before .before .if4 .left)) (search needs) (c .before .before .before .before .before .apply-updates2 .last .1 .1 .0) _ _ (c .before .before .before .before .before .apply-updates2 .ensures) (omega (arith, c .if5 .taken))
 
 sub-first-array : tie.Need-sub-first-array
 sub-first-array c = search needs
@@ -88,7 +89,7 @@ same-length-6 : tie.Need-same-length-6
 same-length-6 c = search needs
 
 returns-6 : tie.Need-returns-6
-returns-6 c = match-done _ _ _ (c .before .before .before .before .before .before .before .before .before .before .before .before .before .before .before .before .before .before .before .before .before .before .before .before .before .before .before .before .before .before .before .before .before .before .args .cells .now) _ _ _ (c .before .before .before .before .before .before .before .before .before .before .before .before .before .before .before .before .before .before .before .before .before .before .before .before .before .before .bases-of .ensures) (c .before .before .before .before .before .before .before .before .before .before .before .before .before .before .before .before .before .before .before .before .before .before .before .before .before .bases-of2 .ensures) (c .before .before .before .before .before .before .before .before .before .before .before .before .before .before .before .before .before .before .before .before .before .apply-updates .last .1 .1 .0) _ _ (c .before .before .before .before .before .before .before .before .before .before .before .before .before .before .before .before .before .before .before .before .before .apply-updates .ensures) (c .before .before .before .before .before .before .before .before .before .before .before .before .before .before .before .before .before .before .before .before .before .before .before .before .before .before .before .if3 .left) (c .before .before .before .before .before .before .before .before .before .before .before .before .before .before .before .before .if4 .left) (search needs) (c .before .before .before .before .before .before .before .before .before .before .before .before .apply-updates2 .last .1 .1 .0) _ _ (c .before .before .before .before .before .before .before .before .before .before .before .before .apply-updates2 .ensures) (c .before .before .before .before .before .before .before .if5 .left) (search needs) _ (c .first-array .ensures)
+returns-6 c = match-done _ _ _ (c .before .before .before .before .before .before .before .before .before .before .before .before .before .before .before .before .before .before .before .before .before .before .before .before .before .before .before .before .before .before .before .before .before .before .args .cells .now) _ _ _ (c .before .before .before .before .before .before .before .before .before .before .before .before .before .before .before .before .before .before .before .before .before .before .before .before .before .before .bases-of .ensures) (c .before .before .before .before .before .before .before .before .before .before .before .before .before .before .before .before .before .before .before .before .before .before .before .before .before .bases-of2 .ensures) (c .before .before .before .before .before .before .before .before .before .before .before .before .before .before .before .before .before .before .before .before .before .apply-updates .last .1 .1 .0) _ _ (c .before .before .before .before .before .before .before .before .before .before .before .before .before .before .before .before .before .before .before .before .before .apply-updates .ensures) (c .before .before .before .before .before .before .before .before .before .before .before .before .before .before .before .before .before .before .before .before .before .before .before .before .before .before .before .if3 .left) (omega (arith, c .before .before .before .before .before .before .before .before .before .before .before .before .before .before .before .before .if4 .left)) (search needs) (c .before .before .before .before .before .before .before .before .before .before .before .before .apply-updates2 .last .1 .1 .0) _ _ (c .before .before .before .before .before .before .before .before .before .before .before .before .apply-updates2 .ensures) (omega (arith, c .before .before .before .before .before .before .before .if5 .left)) (search needs) _ (c .first-array .ensures)
 
 pub match-lists-spec : {M : Type 1} → statement M
 match-lists-spec =

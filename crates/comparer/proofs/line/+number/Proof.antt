@@ -34,7 +34,7 @@ module _ (t : ℕ) where
   number-put-requires c κs = search needs
 
   number-returns : number-lts.Need-returns (number-claims t) (number-at t) number.Post
-  number-returns c = number-last (c .before .before .args .line) _ (c .before .before .args .n) (c .before .if1 .taken) (c .put .ensures)
+  number-returns c = number-last (c .before .before .args .line) _ (c .before .before .args .n) _ (omega (arith, c .before .if1 .taken)) (c .put .ensures) (omega arith)
 
   number-number-requires : number-lts.Need-number-requires (number-claims t) (number-at t) number.Post
   number-number-requires c κs = (omega (arith, c .before .pre .0), tt)
@@ -49,7 +49,7 @@ module _ (t : ℕ) where
   number-put-requires-2 c κs = search needs
 
   number-returns-2 : number-lts.Need-returns-2 (number-claims t) (number-at t) number.Post
-  number-returns-2 c = number-more (c .before .before .before .args .line) (c .before .number .result) _ (c .before .before .before .args .n) (c .before .before .if1 .left) (c .before .number .ensures) (c .put2 .ensures)
+  number-returns-2 c = number-more (c .before .before .before .args .line) (c .before .number .result) _ (c .before .before .before .args .n) _ (omega (arith, c .before .before .if1 .left)) (c .before .number .ensures) (c .put2 .ensures) (omega arith)
 
 pub +number-spec : {M : Type 1} → statement M
 +number-spec = close μ-number λ t. number-lts.spec (number-claims t) (number-at t) number.Post (number-cast-put t) (number-add-put t) (number-put-requires t) (number-returns t) (number-number-requires t) (number-cast-put-2 t) (number-add-put-2 t) (number-put-requires-2 t) (number-returns-2 t)

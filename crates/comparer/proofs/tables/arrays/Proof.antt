@@ -1,3 +1,4 @@
+use native.Mathlib.Omega.{arith}
 use borrow.Author.Needs.{needs}
 use Rattle.comparer.proofs.Headers.{arrays-tell}
 use Rattle.comparer.proofs.tables.arrays.Statement.{statement}
@@ -28,7 +29,7 @@ ended-requires : tie.Need-ended-requires
 ended-requires c κs = search needs
 
 returns : tie.Need-returns
-returns c = arrays-tell _ _ (c .before .before .before .before .non-locals .result) (c .before .before .before .non-locals2 .result) (c .before .first-apart .result) _ (c .before .before .before .before .non-locals .ensures) (c .before .before .before .non-locals2 .ensures) (rw (c .before .before .least .ensures) at (c .before .first-apart .ensures)) (c .ended .ensures)
+returns c = arrays-tell _ _ (c .before .before .before .before .non-locals .result) (c .before .before .before .non-locals2 .result) (c .before .first-apart .result) _ (c .before .before .before .before .non-locals .ensures) (c .before .before .before .non-locals2 .ensures) _ (c .before .first-apart .ensures) (omega (arith, c .before .before .least .ensures)) (c .ended .ensures)
 
 pub arrays-spec : {M : Type 1} → statement M
 arrays-spec =
