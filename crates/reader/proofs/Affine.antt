@@ -1,9 +1,8 @@
 -- Forms: where all bytes are there, and where the first is missing.
-use mathlib.Core.Path.{_≡_, refl, sym, ap, _∙_}
+use mathlib.Core.Path.{_≡_, refl, sym, ap}
 use Prim.Native.Nat.{ℕ, zero, suc, _+_, _-_, _*_, _≤_, _<_}
-use mathlib.Core.List.{List, [], _∷_, _++_}
+use mathlib.Core.List.{List, [], _∷_}
 use native.Mathlib.Omega.{arith}
-use native.Mathlib.Numerals.{add-one}
 use lib.ListN.{length, getD, take, replicate}
 use lib.IntN.{ℤ, pos}
 use mir.Syntax.{w8, w16}
@@ -23,14 +22,6 @@ pub length-signeds : (n : ℕ) (s : List ℕ) (at : ℕ) → length (signeds n s
 unfolding signeds
 length-signeds zero s at = refl
 length-signeds (suc n) s at = ap suc (length-signeds n s (at + 1))
-
-pub signeds-snoc : (n : ℕ) (s : List ℕ) (at : ℕ) → signeds n s at ++ (toZ w8 (getD s (at + n) 0) ∷ []) ≡ signeds (n + 1) s at
-unfolding signeds
-signeds-snoc zero s at = let e : at + 0 ≡ at = omega arith in rw e
-signeds-snoc (suc n) s at =
-    let e : at + suc n ≡ at + 1 + n = omega arith in
-    let w : suc n + 1 ≡ suc (n + 1) = omega arith in
-    rw (e, w) (ap (λ (l : List ℤ). toZ w8 (getD s at 0) ∷ l) (signeds-snoc n s (at + 1)))
 
 module _ (s : List ℕ) where
   i8-is : (at : ℕ) → at < length s → i8 s at ≡ got (toZ w8 (getD s at 0)) (at + 1)

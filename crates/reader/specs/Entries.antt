@@ -1,5 +1,5 @@
 -- What the entries answer beyond the grammar: definitions for every depth and number of loops, and what stands in a result's fields.
-use Prim.Native.Nat.{ℕ, zero, suc, _+_, _-_, _*_, min}
+use Prim.Native.Nat.{ℕ, zero, suc, _+_, _-_, _*_, _/_, _%_, _^_, _≤_, _<_, min}
 use mathlib.Core.List.{List, [], _∷_, _++_, map}
 use mathlib.Core.Bool.{_&&_}
 use lib.ListN.{length, getD, take, replicate}
@@ -28,6 +28,16 @@ padded n z l = l ++ replicate (n - length l) z
 unfoldable pub signeds : ℕ → List ℕ → ℕ → List ℤ
 signeds zero s at = []
 signeds (suc n) s at = toZ w8 (getD s at 0) ∷ signeds n s (at + 1)
+
+-- n bytes of a number, the lowest first, as two's complement
+unfoldable pub bytesOf : ℕ → ℕ → List ℤ
+bytesOf zero w = []
+bytesOf (suc n) w = toZ w8 (w % 256) ∷ bytesOf n (w / 256)
+
+-- a number of eight bytes, those before `end` as far as they are there
+pub record Before (s : List ℕ) (end w : ℕ) : Type 0 where
+  pub eight : w < 2 ^ 64
+  pub bytes : (j : ℕ) → j < 8 → 8 ≤ end + j → w / 2 ^ (8 * j) % 256 ≡ getD s (end + j - 8) 0
 
 -- A form inside any number of loops. No file nests more than 8, so more are refused by 12.
 unfoldable pub formStep : ℕ → Reader Form

@@ -93,7 +93,7 @@ fn triple(a: u8, b: u8, c: u8) -> usize
 }
 
 // Four bytes as a number, the lowest first.
-fn quad(a: u8, b: u8, c: u8, d: u8) -> usize
+pub(crate) fn quad(a: u8, b: u8, c: u8, d: u8) -> usize
     ensures { λ r. ⌜ r ≡ a + 256 * (b + 256 * (c + 256 * d)) ⌝ }
 {
     a as usize + 256 * (b as usize + 256 * (c as usize + 256 * (d as usize)))

@@ -4,6 +4,7 @@ pub mod Inverse
 pub mod Laws
 pub mod Runs
 pub mod Accepted
+mod Sums
 pub mod Values
 pub mod Stands
 mod Indices

@@ -32,7 +32,7 @@ use Rattle.unroller.specs.Forms.{ValueIs, Values}
 use Rattle.unroller.specs.Allowed.{allowedTables}
 use Rattle.unroller.specs.Layout.{treeWords, treesWords}
 use Rattle.unroller.specs.Stands.{basesOf}
-use Rattle.unroller.specs.Writes.{CellIs, CellsFrom, WroteIs, WritesRead, WritesLiteral, WritesConstant, WritesLeaf}
+use Rattle.unroller.specs.Writes.{CellIs, CellsFrom, CellOf, WroteIs, WritesRead, WritesLiteral, WritesConstant, WritesLeaf}
 use Rattle.unroller.specs.declared.forms.Valued.{Valued}
 use Rattle.unroller.specs.declared.forms.Valued.the-variants as valued
 use Rattle.unroller.specs.declared.statement.Cell.{Cell}
@@ -164,13 +164,13 @@ module _ (s : List ℕ) (at : ℕ) (t : Tables) (loops : ℕ) (is : List ℤ) (l
       let h = field-no says x in
       read-by (index (length (t .arrays)) s at) _ g λ n at1 e1 r1. absurd (let z : _≡_ {A = ℕ} 0 1 = cc in omega arith)
 
-  module _ (b at1 : ℕ) (x : r ≡ field.Is b at1) (m : Cell) (y : CellsFrom s at1 loops is 0 (arrayAt (t .arrays) b .extents) m) where
+  module _ (b at1 : ℕ) (x : r ≡ field.Is b at1) (m : Cell) (y : CellOf s at1 t loops is b m) where
     -- the read that stands there
     pub read-by-cell : (out : Wrote) →
         ((fs : List Form) (next p : ℕ) → b < length (t .arrays) → subscripts t loops b s at1 ≡ got fs next → CellIs (cellAt t p (take loops is) b fs) next m → loops ≤ 8 → allowedTables t ≡ true
         → WroteIs treeWords list to next (tree (read b fs) t p (take loops is)) out list′) →
         WritesRead s at t loops is list to out list′
-    unfolding WritesRead readOf CellsFrom subscripts cellAt
+    unfolding WritesRead readOf CellOf CellsFrom subscripts cellAt
     read-by-cell out f e next p g l i a w =
         let h : index (length (t .arrays)) s at ≡ got b at1 = field-got says x in
         read-by (index (length (t .arrays)) s at) _ g λ b1 at2 e1 r1.
@@ -180,7 +180,7 @@ module _ (s : List ℕ) (at : ℕ) (t : Tables) (loops : ℕ) (is : List ℤ) (l
         let n : at3 ≡ next = cc in
         let e3 : subscripts t loops b s at1 ≡ got fs next = subst (λ (b : ℕ). subscripts t loops b s at1 ≡ got fs next) z (subst (λ (at : ℕ). subscripts t loops b1 s at ≡ got fs next) d (e2 ∙ ap (got fs) n)) in
         got-is (λ e. WroteIs treeWords list to next (tree e t p (take loops is)) out list′) r2
-        (subst (λ (b : ℕ). WroteIs treeWords list to next (tree (read b fs) t p (take loops is)) out list′) (sym z) (f fs next p (index-below (length (t .arrays)) s at h) e3 (y fs next p e3 l i) l a))
+        (subst (λ (b : ℕ). WroteIs treeWords list to next (tree (read b fs) t p (take loops is)) out list′) (sym z) (f fs next p (index-below (length (t .arrays)) s at h) e3 (y (index-below (length (t .arrays)) s at h) fs next p e3 l i) l a))
 
     pub read-cell-no : (k : ℕ) → m ≡ cell.No k → WritesRead s at t loops is list to (wrote.No k) list′
     unfolding tree

@@ -31,7 +31,7 @@ use Rattle.unroller.specs.Run.{Ran, ok, stop, _>>=_, ask, fits32, valueA
 use Rattle.unroller.specs.Layout.{treeWords, updateWords, words, layout}
 use Rattle.unroller.specs.Stands.{basesOf}
 use Rattle.unroller.specs.Walk.{Progress, on, Based, Holds, Walked, RunsStatement}
-use Rattle.unroller.specs.Writes.{CellIs, CellsFrom, WroteIs, WritesNode, spot, mayRead, scanned, Marks, UpdateIs, Within, updateOf, Stated, WritesUpdate, Sources, FewNodes, RunsUpdate}
+use Rattle.unroller.specs.Writes.{CellIs, CellsFrom, CellOf, WroteIs, WritesNode, spot, mayRead, scanned, Marks, UpdateIs, Within, updateOf, Stated, WritesUpdate, Sources, FewNodes, RunsUpdate}
 use Rattle.unroller.specs.declared.walk.Walk.{Walk}
 use Rattle.unroller.specs.declared.walk.Walk.the-variants as walk
 use Rattle.unroller.specs.declared.statement.Cell.{Cell}
@@ -154,10 +154,10 @@ outOf c (wrote.To next end) = target.Is c next end
 outOf c (wrote.No k) = target.No k
 
 module _ (s : List ℕ) (a at : ℕ) (t : Tables) (loops : ℕ) (is : List ℤ) (list : List ℕ) (to : ℕ) (list′ : List ℕ)
-    (m : Cell) (y : CellsFrom s at loops is 0 (arrayAt (t .arrays) a .extents) m) where
+    (m : Cell) (y : CellOf s at t loops is a m) where
   target-cell : (fs : List Form) (source : ℕ) (e : Expr) (next p : ℕ) → Stated s at source t loops is a fs e next → CellIs (cellAt t p (take loops is) a fs) source m
-  unfolding CellsFrom cellAt subscripts
-  target-cell fs source e next p st = y fs source p (st .target) (st .few-loops) (st .eight)
+  unfolding CellOf CellsFrom cellAt subscripts
+  target-cell fs source e next p st = y (st .declared) fs source p (st .target) (st .few-loops) (st .eight)
 
   pub target-no : (k : ℕ) → m ≡ cell.No k → WritesUpdate s a at t loops is list to (target.No k) list′
   unfolding WritesUpdate

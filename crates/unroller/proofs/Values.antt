@@ -1,15 +1,15 @@
 -- Forms worked out over arrays of eight numbers have the values that the definition gives them.
 use mathlib.Core.Path.{_≡_, refl, sym, ap, ap₂, _∙_, subst}
-use Prim.Native.Nat.{ℕ, zero, suc, _+_, _-_, _*_, _≤_, _<_, min}
+use Prim.Native.Nat.{ℕ, zero, suc, _+_, _-_, _≤_}
 use native.Mathlib.Omega.{arith}
 use mathlib.Core.List.{List, [], _∷_, _++_}
-use mathlib.Core.Bool.{Bool, true, false, _&&_, false≢true}
+use mathlib.Core.Bool.{Bool, true, false, false≢true}
 use lib.ListN.{length, getD, take, replicate, length-append, length-replicate, length-take}
 use lib.Seq.{take-suc}
 use lib.Dec.{leb}
 use lib.IntN.{ℤ, pos, negsuc, _+ℤ_, _*ℤ_, +ℤ-assoc, +ℤ-idl, +ℤ-idr}
-use lib.Signed.{leZ, ltZ}
-use mir.Syntax.{w8, w16, w64}
+use lib.Signed.{ltZ}
+use mir.Syntax.{w64}
 use mir.Val.{toZ, ofZ, SFits}
 use mir.Facts.{toZ-ofZ}
 use borrow.Author.Tests.{le-leb, lt-leb, ltb-true, ltb-false}
@@ -18,15 +18,13 @@ use Rattle.reader.specs.Field.{Outcome, got, no}
 use Rattle.reader.specs.Syntax.{Form}
 use Rattle.reader.specs.Grammar.{form}
 use Rattle.reader.specs.Answers.{placed}
-use Rattle.reader.specs.Entries.{signeds, formStep, FormIs, formSays, coefficientsIn}
+use Rattle.reader.specs.Entries.{padded, formStep, FormIs, formSays, coefficientsIn}
 use Rattle.reader.specs.declared.fields.Place.{Place}
 use Rattle.reader.specs.declared.fields.Place.the-variants.{Next, Not}
 use Rattle.reader.specs.declared.forms.FormRead.{FormRead}
-use Rattle.reader.proofs.Affine.{length-signeds, form-all, form-cut, form-short}
-use Rattle.reader.proofs.Numbers.{by-order}
 use Rattle.unroller.specs.Run.{Ran, ok, stop, products, valueAt, fits32, worked}
 use Rattle.unroller.specs.Forms.{formSum, fittedIn, ValueIs, Values}
-use Rattle.unroller.specs.declared.forms.Valued.{Valued}
+use Rattle.unroller.proofs.Sums.{sum-still}
 use Rattle.unroller.specs.declared.forms.Valued.the-variants.{Is, No}
 
 products-snoc : (xs ys : List ℤ) (c i : ℤ) → length xs ≡ length ys → products (xs ++ (c ∷ [])) (ys ++ (i ∷ [])) ≡ products xs ys +ℤ (c *ℤ i)
@@ -48,19 +46,16 @@ sum-products z cs is (suc n) h k =
     ∙ ap (λ (w : ℤ). z +ℤ w) (sym (products-snoc (take n cs) (take n is) c i (omega arith)))
     ∙ ap₂ (λ (xs ys : List ℤ). z +ℤ products xs ys) (sym (take-suc cs n (pos 0) (omega arith))) (sym (take-suc is n (pos 0) (omega arith)))
 
--- a number and a place that are the form's, question 21 asked of the number
-module _ (s : List ℕ) (at loops : ℕ) (is : List ℤ) (v : ℤ) (to : ℕ) where
-  record Formed (f : Form) (next : ℕ) : Type 0 where
-    place : to ≡ next
-    value : v ≡ valueAt f (take loops is)
+-- beyond a list's own numbers stand zeros
+zeros-at : (n j : ℕ) → getD (replicate n (pos 0)) j (pos 0) ≡ pos 0
+zeros-at zero j = refl
+zeros-at (suc n) zero = refl
+zeros-at (suc n) (suc j) = zeros-at n j
 
-  values-fitted : ((f : Form) (next : ℕ) → form loops s at ≡ got f next → loops ≤ 8 → length is ≡ 8 → Formed f next) → Values s at loops is (fittedIn v to)
-  unfolding Values worked fittedIn
-  values-fitted formed f next p q h l = go (formed f next q h l) (fits32 v) refl
-    where
-      go : Formed f next → (z : Bool) → fits32 v ≡ z → ValueIs (worked p (take loops is) f) next (fittedIn v to)
-      go g true t = let y : fits32 (valueAt f (take loops is)) ≡ true = subst (λ (v : ℤ). fits32 v ≡ true) (g .value) t in rw (t, y) (g .value, g .place)
-      go g false t = let y : fits32 (valueAt f (take loops is)) ≡ false = subst (λ (v : ℤ). fits32 v ≡ false) (g .value) t in rw (t, y) refl
+padding-at : (l : List ℤ) (n j : ℕ) → length l ≤ j → getD (l ++ replicate n (pos 0)) j (pos 0) ≡ pos 0
+padding-at [] n j h = zeros-at n j
+padding-at (x ∷ l) n zero h = absurd (omega arith)
+padding-at (x ∷ l) n (suc j) h = padding-at l n j (omega arith)
 
 module _ (s : List ℕ) (at loops : ℕ) (is : List ℤ) (r : FormRead) (i : FormIs loops (formStep loops s at) r) where
   -- the step is the form, where there are at most 8 loops
@@ -78,27 +73,45 @@ module _ (s : List ℕ) (at loops : ℕ) (is : List ℤ) (r : FormRead) (i : For
   unfolding Values
   value-refused number place e f next p q h l = absurd (placed-not (r .answer) _ f number place next e (says f next q h))
 
-  module _ (to : ℕ) (e : r .answer ≡ Next to) (v : ℤ) (w : v ≡ formSum (r .constant) (r .coefficients) is (min loops 8)) where
-    formed : (f : Form) (next : ℕ) → form loops s at ≡ got f next → loops ≤ 8 → length is ≡ 8 → Formed s at loops is v to f next
+  module _ (to : ℕ) (e : r .answer ≡ Next to) (v : ℤ) (w : v ≡ formSum (r .constant) (r .coefficients) is 8) where
+    long-enough : (f : Form) (next : ℕ) → form loops s at ≡ got f next → loops ≤ 8 → 8 ≤ length (r .coefficients)
+    long-enough f next q h =
+        let c = ap length (i .coefficients ∙ ap coefficientsIn (stepped f next q h)) in
+        let a = length-append (f .coefficients) (replicate (8 - length (f .coefficients)) (pos 0)) in
+        let b : length {A = ℤ} (replicate (8 - length (f .coefficients)) (pos 0)) ≡ 8 - length (f .coefficients) = length-replicate (8 - length (f .coefficients)) (pos 0) in
+        omega arith
+
+    -- coefficients beyond the loops are 0
+    loops-alone : (f : Form) (next : ℕ) → form loops s at ≡ got f next → loops ≤ 8 → take loops (r .coefficients) ≡ f .coefficients →
+        formSum (r .constant) (r .coefficients) is 8 ≡ formSum (r .constant) (r .coefficients) is loops
+    loops-alone f next q h y =
+        let c : r .coefficients ≡ padded 8 (pos 0) (f .coefficients) = i .coefficients ∙ ap coefficientsIn (stepped f next q h) in
+        let g = long-enough f next q h in
+        let a = length-take loops (r .coefficients) in
+        let n : length (f .coefficients) ≡ loops = ap length (sym y) ∙ omega arith in
+        let m : 8 ≡ loops + (8 - loops) = omega arith in
+        ap (formSum (r .constant) (r .coefficients) is) m
+        ∙ sum-still (r .constant) (r .coefficients) is loops (8 - loops)
+        (λ j a b. ap (λ (l : List ℤ). getD l j (pos 0)) c ∙ padding-at (f .coefficients) (8 - length (f .coefficients)) j (omega arith))
+
+    formed : (f : Form) (next : ℕ) → form loops s at ≡ got f next → loops ≤ 8 → length is ≡ 8 → (v ≡ valueAt f (take loops is)) × (to ≡ next)
     formed f next q h l =
         let g : _≡_ {A = Outcome Form} (got (record { constant = r .constant; coefficients = take loops (r .coefficients) }) to) (got f next) = sym (ap (λ (p : Place). placed p (record { constant = r .constant; coefficients = take loops (r .coefficients) })) e) ∙ says f next q h in
         let x : _≡_ {A = Form} (record { constant = r .constant; coefficients = take loops (r .coefficients) }) f = cc in
-        let m : min loops 8 ≡ loops = omega arith in
-        let long : 8 ≤ length (r .coefficients) = long-enough f next q h in
-        record {
-          place = cc;
-          value = w ∙ ap (formSum (r .constant) (r .coefficients) is) m ∙ sum-products (r .constant) (r .coefficients) is loops (omega arith) (omega arith) ∙ ap (λ (f : Form). valueAt f (take loops is)) x;
-        }
-      where
-        long-enough : (f : Form) (next : ℕ) → form loops s at ≡ got f next → loops ≤ 8 → 8 ≤ length (r .coefficients)
-        long-enough f next q h =
-            let c = ap length (i .coefficients ∙ ap coefficientsIn (stepped f next q h)) in
-            let a = length-append (f .coefficients) (replicate (8 - length (f .coefficients)) (pos 0)) in
-            let b : length {A = ℤ} (replicate (8 - length (f .coefficients)) (pos 0)) ≡ 8 - length (f .coefficients) = length-replicate (8 - length (f .coefficients)) (pos 0) in
-            omega arith
+        let long = long-enough f next q h in (
+          w ∙ loops-alone f next q h (ap (λ (f : Form). f .coefficients) x)
+              ∙ sum-products (r .constant) (r .coefficients) is loops (omega arith) (omega arith)
+              ∙ ap (λ (f : Form). valueAt f (take loops is)) x,
+          cc,
+        )
 
     pub value-fitted : Values s at loops is (fittedIn v to)
-    value-fitted = values-fitted s at loops is v to formed
+    unfolding Values worked fittedIn
+    value-fitted f next p q h l = go (formed f next q h l) (fits32 v) refl
+      where
+        go : (v ≡ valueAt f (take loops is)) × (to ≡ next) → (z : Bool) → fits32 v ≡ z → ValueIs (worked p (take loops is) f) next (fittedIn v to)
+        go g true t = let y : fits32 (valueAt f (take loops is)) ≡ true = subst (λ (v : ℤ). fits32 v ≡ true) (g .0) t in rw (t, y) g
+        go g false t = let y : fits32 (valueAt f (take loops is)) ≡ false = subst (λ (v : ℤ). fits32 v ≡ false) (g .0) t in rw (t, y) refl
 
 -- the code's two tests of 32 signed bits, on a number read back from its bits
 module _ (v : ℤ) (next : ℕ) (f : SFits w64 v) where
@@ -134,47 +147,3 @@ module _ (v : ℤ) (next : ℕ) (f : SFits w64 v) where
   pub fitted-between : ltZ (toZ w64 (ofZ w64 v)) (negsuc 2147483647) ≡ false → ltZ (pos 2147483647) (toZ w64 (ofZ w64 v)) ≡ false → Is (toZ w64 (ofZ w64 v)) next ≡ fittedIn v next
   unfolding fittedIn
   fitted-between e g = rw (between e g, toZ-ofZ {w = w64} {z = v} f)
-
--- ---- forms worked out from the bytes
-pub getD-signeds : (n : ℕ) (s : List ℕ) (at k : ℕ) → k < n → getD (signeds n s at) k (pos 0) ≡ toZ w8 (getD s (at + k) 0)
-unfolding signeds
-getD-signeds zero s at k h = absurd (omega arith)
-getD-signeds (suc n) s at zero h = let e : at + 0 ≡ at = omega arith in rw e
-getD-signeds (suc n) s at (suc k) h = let e : at + 1 + k ≡ at + suc k = omega arith in getD-signeds n s (at + 1) k (omega arith) ∙ ap (λ (j : ℕ). toZ w8 (getD s j 0)) e
-
-take-all : (n : ℕ) (l : List ℤ) → length l ≡ n → take n l ≡ l
-take-all zero [] e = refl
-take-all zero (x ∷ l) e = absurd (omega arith)
-take-all (suc n) [] e = absurd (omega arith)
-take-all (suc n) (x ∷ l) e = ap (λ (m : List ℤ). x ∷ m) (take-all n l (omega arith))
-
-module _ (s : List ℕ) (at loops : ℕ) (is : List ℤ) where
-  pub bytes-deep : (k : ℕ) → 8 < loops → Values s at loops is (No k)
-  unfolding Values
-  bytes-deep k h f next p q l i = absurd (omega arith)
-
-  pub bytes-short : (k : ℕ) → length s < at + (2 + loops) → Values s at loops is (No k)
-  unfolding Values
-  bytes-short k h f next p q l i =
-      by-order (at + 2) (length s)
-      (λ w. absurd (no-form (form-cut loops s at w (omega arith)) q))
-      (λ w. absurd (no-form (form-short loops s at (omega arith)) q))
-    where
-      no-form : {k p : ℕ} → form loops s at ≡ no k p → form loops s at ≡ got f next → ⊥
-      no-form e g = let z : _≡_ {A = ℕ} 0 1 = cc in omega arith
-
-  module _ (h : at + (2 + loops) ≤ length s) (c v : ℤ) (x : c ≡ toZ w16 (getD s at 0 + 256 * getD s (at + 1) 0)) (w : v ≡ formSum c (signeds loops s (at + 2)) is loops) where
-    made : (f : Form) (next : ℕ) → form loops s at ≡ got f next → loops ≤ 8 → length is ≡ 8 → Formed s at loops is v (at + 2 + loops) f next
-    made f next q l i =
-        let g = form-all loops s at (omega arith) in
-        let y : _≡_ {A = Form} (record { constant = toZ w16 (getD s at 0 + 256 * getD s (at + 1) 0); coefficients = signeds loops s (at + 2) }) f = cc in
-        let n = length-signeds loops s (at + 2) in
-        record {
-          place = cc;
-          value = w ∙ sum-products c (signeds loops s (at + 2)) is loops (omega arith) (omega arith)
-              ∙ ap₂ (λ (z : ℤ) (l : List ℤ). z +ℤ products l (take loops is)) x (take-all loops (signeds loops s (at + 2)) n)
-              ∙ ap (λ (f : Form). valueAt f (take loops is)) y;
-        }
-
-    pub bytes-fitted : Values s at loops is (fittedIn v (at + 2 + loops))
-    bytes-fitted = values-fitted s at loops is v (at + 2 + loops) made

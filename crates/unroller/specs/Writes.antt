@@ -54,6 +54,10 @@ CellsFrom s at loops is n es r =
     (fs : List Form) (next p : ℕ) → times [] _∷_ (form loops) (length es) s at ≡ got fs next → loops ≤ 8 → length is ≡ 8
     → CellIs (cellFrom p (take loops is) n es fs) next r
 
+-- the cell of a declared array, at the subscripts that stand at `at`
+unfoldable pub CellOf : List ℕ → ℕ → Tables → ℕ → List ℤ → ℕ → Cell → Type 0
+CellOf s at t loops is a r = a < length (t .arrays) → CellsFrom s at loops is 0 (arrayAt (t .arrays) a .extents) r
+
 -- what is written of an expression from word `to` on
 abbrev pub WroteIs : {A : Type 0} → (A → List ℕ) → List ℕ → ℕ → ℕ → Ran A → Wrote → List ℕ → Type 0
 WroteIs words list to next (ok x) (wrote.To at end) list′ = (at ≡ next) × (end ≡ to + length (words x)) × (list′ ≡ sets list to (words x))

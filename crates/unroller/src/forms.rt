@@ -1,16 +1,14 @@
 // Affine forms in signed arithmetic. Coefficients and index values are arrays of eight numbers by value; 64 bits hold every sum.
 ghost use mathlib.Core.Path.{_≡_};
-ghost use Prim.Native.Nat.{_+_, _≤_, _^_, min};
-ghost use lib.ListN.{length};
+ghost use Prim.Native.Nat.{_≤_, _<_, _^_};
 ghost use lib.IntN.{_+ℤ_, _*ℤ_, natAbs};
-ghost use Rattle.reader.specs.Entries.{signeds};
+ghost use mir.Syntax.{w8};
+ghost use mir.Val.{ofZ};
 ghost use Rattle.unroller.specs.Run.{goesOn};
-ghost use Rattle.unroller.specs.Forms.{formSum, fittedIn, Values};
+ghost use Rattle.unroller.specs.Forms.{formSum, Packs, fittedIn, Values};
 use reader::fields::Place;
-use reader::fields::has;
 use reader::fields::i8_of;
-use reader::fields::i16_of;
-use reader::fields::pair;
+use reader::forms::form_at;
 
 // One more product. The bound is far above what eight products reach.
 fn form_step(sum: i64, coefficient: i8, index: i16) -> i64
@@ -26,27 +24,38 @@ fn wide(x: i16) -> i64
     x as i64
 }
 
-fn at_most_8(n: usize) -> usize
-    ensures { λ r. ⌜ r ≡ min n 8 ⌝ }
+// The bits of a signed byte.
+fn byte_of(c: i8) -> u8
+    ensures { λ r. ⌜ r ≡ ofZ w8 c ⌝ }
 {
-    if n < 8 { n } else { 8 }
+    if c >= 0 { c as u8 } else { 255 - (!c) as u8 }
 }
 
-// The value of a form inside `loops` loops.
-pub(crate) fn form_value(
-    constant: i16,
-    coefficients: [i8; 8],
-    indices: [i16; 8],
-    loops: usize,
-) -> i64
-    ensures value { λ r. ⌜ r ≡ formSum constant coefficients indices (min loops 8) ⌝ }
+fn bits(c: i8) -> usize
+    ensures { λ r. ⌜ (r ≡ ofZ w8 c) × (r < 256) ⌝ }
+{
+    byte_of(c) as usize
+}
+
+// Eight signed bytes as one number, the first lowest: as a processor has them, by value in one register.
+fn packed(c: [i8; 8]) -> usize
+    ensures { λ r. ⌜ Packs c r ⌝ }
+{
+    let high = bits(c[4]) + 256 * (bits(c[5]) + 256 * (bits(c[6]) + 256 * bits(c[7])));
+    bits(c[0]) + 256 * (bits(c[1]) + 256 * (bits(c[2]) + 256 * (bits(c[3]) + 256 * high)))
+}
+
+// The value of a form. Most name one or two loops, so the work ends behind the last coefficient that is not 0.
+pub(crate) fn form_value(constant: i16, coefficients: [i8; 8], indices: [i16; 8]) -> i64
+    ensures value { λ r. ⌜ r ≡ formSum constant coefficients indices 8 ⌝ }
     ensures bound { λ r. ⌜ natAbs r ≤ 33_587_200 ⌝ }
 {
-    let n = at_most_8(loops);
     let mut sum = wide(constant);
+    let mut rest = packed(coefficients);
     let mut k: usize = 0;
-    while k < n {
-        sum = form_step(sum, coefficients[k], indices[k]);
+    while rest != 0 {
+        sum = form_step(sum, i8_of((rest % 256) as u8), indices[k]);
+        rest = rest / 256;
         k += 1;
     }
     sum
@@ -75,46 +84,16 @@ fn fitted(value: i64, next: usize) -> Valued
 pub(crate) fn value_at(program: &[u8], at: usize, loops: usize, indices: [i16; 8]) -> Valued
     ensures { λ r. ⌜ Values (now (program .entry)) at loops indices r ⌝ }
 {
-    let form = reader::forms::form_at(program, at, loops);
+    let form = form_at(program, at, loops);
     let answer = form.answer;
     match answer {
         Place::Not(number, _) => Valued::No(number),
         Place::Next(next) => {
             let coefficients = form.coefficients;
-            let v = form_value(form.constant, coefficients, indices, loops);
+            let v = form_value(form.constant, coefficients, indices);
             fitted(v, next)
         }
     }
-}
-
-// A form's constant and its products; the coefficients stand at `at`.
-fn sum_at(s: &[u8], at: usize, constant: i16, indices: [i16; 8], loops: usize) -> i64
-    requires { ⌜ (loops ≤ 8) × (at + loops ≤ length (now s)) ⌝ }
-    ensures { λ r. ⌜ r ≡ formSum constant (signeds loops (now (s .entry)) at) indices loops ⌝ }
-{
-    let mut sum = wide(constant);
-    let mut k: usize = 0;
-    while k < loops {
-        sum = form_step(sum, i8_of(s[at + k]), indices[k]);
-        k += 1;
-    }
-    sum
-}
-
-// The same as `value_at`, with the coefficients taken from the bytes one by one: most of a run's time goes into the subscripts, and
-// an array of coefficients, filled and handed on, costs more than their products.
-pub(crate) fn value_of(program: &[u8], at: usize, loops: usize, indices: [i16; 8]) -> Valued
-    ensures { λ r. ⌜ Values (now (program .entry)) at loops indices r ⌝ }
-{
-    if 8 < loops {
-        return Valued::No(12);
-    }
-    if !has(program, at, 2 + loops) {
-        return Valued::No(3);
-    }
-    let constant = i16_of(pair(program[at], program[at + 1]));
-    let v = sum_at(program, at + 2, constant, indices, loops);
-    fitted(v, at + 2 + loops)
 }
 
 // Whether a loop with this step goes on at this index. The index is wider than 16 bits, so that a step past either end is seen.

@@ -11,7 +11,6 @@ ghost use Rattle.unroller.specs.WalkItems.{Steps, Ranges, Moves, Passes,
 use crate::forms::Valued;
 use crate::forms::goes_on;
 use crate::forms::value_at;
-use crate::forms::value_of;
 use crate::statement::statement;
 use crate::walk::Walk;
 use reader::fields::Place;
@@ -225,7 +224,7 @@ fn run_guard(
     if left == 0 {
         return Walk::No(12, at);
     }
-    match value_of(program, at + 1, loops, indices) {
+    match value_at(program, at + 1, loops, indices) {
         Valued::No(number) => Walk::No(number, at),
         Valued::Is(value, body) => {
             if value < 0 {

@@ -32,7 +32,7 @@ enum Declared {
 }
 
 // A call asks no proof that the word fits, where a cast would at each place.
-fn wide(x: u32) -> usize
+pub(crate) fn wide(x: u32) -> usize
     ensures { λ r. ⌜ r ≡ x ⌝ }
 {
     x as usize

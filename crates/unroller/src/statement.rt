@@ -8,13 +8,13 @@ ghost use lib.Seq.{sets};
 ghost use lib.Dec.{ltb};
 ghost use mir.Syntax.{w32};
 ghost use mir.Val.{ofZ};
-ghost use Rattle.model.specs.Tables.{arrayAt};
 ghost use Rattle.reader.specs.Entries.{viewed, tablesIn};
 ghost use Rattle.unroller.specs.Run.{fits32};
 ghost use Rattle.unroller.specs.Walk.{progress, RunsStatement};
-ghost use Rattle.unroller.specs.Writes.{InExtent, Below, Subscript, CellsFrom, WritesRead, WritesLiteral, WritesConstant, WritesLeaf, WritesOperator, leafRecord, WritesRecord, Roomy, WritesNode, Ends, spot, mayRead, recordFine, scanned, Marks, WritesUpdate, Within, Sources, FewNodes, RunsUpdate};
+ghost use Rattle.unroller.specs.Writes.{InExtent, Below, Subscript, CellOf, WritesRead, WritesLiteral, WritesConstant, WritesLeaf, WritesOperator, leafRecord, WritesRecord, Roomy, WritesNode, Ends, spot, mayRead, recordFine, scanned, Marks, WritesUpdate, Within, Sources, FewNodes, RunsUpdate};
 use crate::forms::Valued;
-use crate::forms::value_of;
+use crate::forms::value_at;
+use crate::lists::wide;
 use crate::walk::Walk;
 use reader::expressions::expression_end;
 use reader::expressions::forms_end;
@@ -55,12 +55,6 @@ enum Target {
     No(u8),
 }
 
-fn number(x: u32) -> usize
-    ensures { λ r. ⌜ r ≡ x ⌝ }
-{
-    x as usize
-}
-
 // A number as a word; what stands in a list always fits.
 fn word(x: usize) -> u32
     ensures { λ r. ⌜ (x < 4294967296 → r ≡ x) ⌝ }
@@ -98,13 +92,13 @@ fn subscript_at(program: &[u8], at: usize, loops: usize, indices: [i16; 8], exte
     ensures says { λ r. ⌜ Subscript (now (program .entry)) at loops indices extent r ⌝ }
     ensures below { λ r. ⌜ Below extent r ⌝ }
 {
-    match value_of(program, at, loops, indices) {
+    match value_at(program, at, loops, indices) {
         Valued::No(number) => Cell::No(number),
         Valued::Is(v, next) => in_extent(v, extent, next),
     }
 }
 
-// The cell of an array at the subscripts that stand at `at`, last fastest.
+// The cell of a declared array at the subscripts that stand at `at`, last fastest.
 fn cell_at(
     program: &[u8],
     at: usize,
@@ -113,8 +107,12 @@ fn cell_at(
     indices: [i16; 8],
     array: usize,
 ) -> Cell
-    ensures { λ r. ⌜ CellsFrom (now (program .entry)) at loops indices 0 (arrayAt (tablesIn (now (tables .entry)) .arrays) array .extents) r ⌝ }
+    ensures { λ r. ⌜ CellOf (now (program .entry)) at (tablesIn (now (tables .entry))) loops indices array r ⌝ }
 {
+    // The grammar rules it out; asked here once, it is not asked again for each extent.
+    if array_count(tables) <= array {
+        return Cell::No(16);
+    }
     let dimensions = dimensions_of(tables, array);
     let mut cell: usize = 0;
     let mut next = at;
@@ -179,7 +177,7 @@ fn write_literal(
     requires { ⌜ to + 3 ≤ length (now list) ⌝ }
     ensures { λ r. ⌜ WritesLiteral (now (program .entry)) at loops indices (now (list .entry)) to r (now (list .exit)) ⌝ }
 {
-    match value_of(program, at, loops, indices) {
+    match value_at(program, at, loops, indices) {
         Valued::No(number) => Wrote::No(number),
         Valued::Is(v, next) => {
             put(list, to, 18, bits_of(v), 0);
@@ -362,7 +360,7 @@ fn record_fine(list: &[u32], at: usize, tables: &[usize; 115], flags: &[u8; 2048
     ensures { λ r. ⌜ r ≡ recordFine (mayRead (tablesIn (now (tables .entry))) (viewed (now (tables .entry)) .bases) (now (flags .entry))) (drop at (now (list .entry))) ⌝ }
 {
     if list[at] == 16 {
-        may_read(tables, flags, number(list[at + 1]), number(list[at + 2]))
+        may_read(tables, flags, wide(list[at + 1]), wide(list[at + 2]))
     } else {
         true
     }

@@ -1,5 +1,4 @@
 -- `value_at` meets its contract.
-use Prim.Native.Nat.{min}
 use lib.IntN.{ℤ}
 use mathlib.Core.Path.{_≡_, sym, ap, subst, _∙_}
 use borrow.Author.Needs.{needs, sfits-of}
@@ -31,7 +30,7 @@ returns c = value-refused (c .before .before .before .before .before .args .prog
 returns-2 : tie.Need-returns-2
 returns-2 c = let to = c .before .before .before .before .before .answer2 .given .0 .0 in
     let v = c .before .form-value .result in
-    let w = c .before .form-value .ensures .0 ∙ ap (λ (z : ℤ). formSum z (c .before .before .before .before .before .before .before .form-at .result .coefficients) (c .before .before .before .before .before .before .before .before .before .args .indices) (min (c .before .before .before .before .before .before .before .before .before .args .loops) 8)) (toZ-ofZ (sfits-of (c .before .before .struct-told .given .1 .0 .1))) in
+    let w = c .before .form-value .ensures .0 ∙ ap (λ (z : ℤ). formSum z (c .before .before .before .before .before .before .before .form-at .result .coefficients) (c .before .before .before .before .before .before .before .before .before .args .indices) 8) (toZ-ofZ (sfits-of (c .before .before .struct-told .given .1 .0 .1))) in
     let r = c .fitted .ensures ∙ ap (λ (z : ℤ). fittedIn z to) (toZ-ofZ (sfits-of (c .before .form-value .ok))) in
     subst (λ (r : Valued). Values (c .before .before .before .before .before .before .before .before .before .args .program .now) (c .before .before .before .before .before .before .before .before .before .args .at) (c .before .before .before .before .before .before .before .before .before .args .loops) (c .before .before .before .before .before .before .before .before .before .args .indices) r) (sym r) (value-fitted (c .before .before .before .before .before .before .before .before .before .args .program .now) (c .before .before .before .before .before .before .before .before .before .args .at) (c .before .before .before .before .before .before .before .before .before .args .loops) (c .before .before .before .before .before .before .before .before .before .args .indices) (c .before .before .before .before .before .before .before .form-at .result) (c .before .before .before .before .before .before .before .form-at .ensures) to (c .before .before .before .before .before .answer2 .given .1) v w)
 

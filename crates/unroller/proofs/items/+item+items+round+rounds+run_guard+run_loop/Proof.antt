@@ -44,7 +44,7 @@ use Rattle.unroller.proofs.items.run_loop.Reads as run-loop
 use Rattle.unroller.proofs.items.run_loop.Kinds as run-loop-kinds
 use Rattle.unroller.proofs.items.+item+items+round+rounds+run_guard+run_loop.Lts-run_loop as run-loop-lts
 use Rattle.unroller.proofs.forms.goes_on.Reads as goes-on-reads
-use Rattle.unroller.proofs.forms.value_of.Reads as value-of-reads
+use Rattle.unroller.proofs.forms.value_at.Reads as value-at-reads
 use Rattle.unroller.proofs.items.passed.Reads as passed-reads
 use Rattle.unroller.proofs.items.range_at.Reads as range-at-reads
 use Rattle.unroller.proofs.statement.statement.Reads as statement-reads
@@ -140,7 +140,7 @@ abbrev rounds-claims : ℕ → rounds-lts.Claims
 rounds-claims t = (goes-on-reads.Asked, goes-on-reads.Learnt, round-below t, round.Post, passed-reads.Asked, passed-reads.Learnt)
 
 abbrev run-guard-claims : ℕ → run-guard-lts.Claims
-run-guard-claims t = (value-of-reads.Asked, value-of-reads.Learnt, passed-reads.Asked, passed-reads.Learnt, items-below t, items.Post)
+run-guard-claims t = (value-at-reads.Asked, value-at-reads.Learnt, passed-reads.Asked, passed-reads.Learnt, items-below t, items.Post)
 
 abbrev run-loop-claims : ℕ → run-loop-lts.Claims
 run-loop-claims t = (range-at-reads.Asked, range-at-reads.Learnt, rounds-below t, rounds.Post)
@@ -323,11 +323,11 @@ module _ (t : ℕ) where
   run-guard-returns : run-guard-lts.Need-returns (run-guard-claims t) (run-guard-at t) run-guard.Post
   run-guard-returns c = let a = c .before .before .before .args in let s = a .program .now in let t = tablesIn (a .tables .now) in let b = viewed (a .tables .now) .bases in nested-none s t b (a .left) (a .loops) (a .indices) (a .at) (progress (a .made) (a .nodes) (a .updates)) (a .list .now) (a .flags .now) _ (a .list .now) (a .flags .now) 3 (c .if1 .taken)
 
-  run-guard-add-value-of : run-guard-lts.Need-add-value-of (run-guard-claims t) (run-guard-at t) run-guard.Post
-  run-guard-add-value-of c = omega arith
+  run-guard-add-value-at : run-guard-lts.Need-add-value-at (run-guard-claims t) (run-guard-at t) run-guard.Post
+  run-guard-add-value-at c = omega arith
 
-  run-guard-value-of-requires : run-guard-lts.Need-value-of-requires (run-guard-claims t) (run-guard-at t) run-guard.Post
-  run-guard-value-of-requires c κs = tt
+  run-guard-value-at-requires : run-guard-lts.Need-value-at-requires (run-guard-claims t) (run-guard-at t) run-guard.Post
+  run-guard-value-at-requires c κs = tt
 
   run-guard-enum-known-number : run-guard-lts.Need-enum-known-number (run-guard-claims t) (run-guard-at t) run-guard.Post
   run-guard-enum-known-number c = search needs
@@ -342,7 +342,7 @@ module _ (t : ℕ) where
   run-guard-passed-requires c κs = tt
 
   run-guard-returns-2 : run-guard-lts.Need-returns-2 (run-guard-claims t) (run-guard-at t) run-guard.Post
-  run-guard-returns-2 c = let a = c .before .before .before .before .before .before .before .before .before .args in let s = a .program .now in let t = tablesIn (a .tables .now) in let b = viewed (a .tables .now) .bases in guard-passes s t b (a .left) (a .left - 1) (a .loops) (a .indices) (a .at) (progress (a .made) (a .nodes) (a .updates)) (a .list .now) (a .flags .now) (let n = c .before .before .before .before .before .before .if1 .left in omega arith) (c .before .before .before .before .before .value-of .result) (c .before .before .before .value .given .0 .0) (c .before .before .before .value .given .0 .1 .0) (c .before .before .before .value .given .1) (c .before .before .before .before .before .value-of .ensures) (c .passed .result) (subst (λ (v : ℤ). ltZ v (pos 0) ≡ true) (toZ-ofZ {w = w64} {z = c .before .before .before .value .given .0 .0} (sfits-of (c .before .before .known-told2 .given .0 .1))) (c .before .if2 .taken)) (c .passed .ensures)
+  run-guard-returns-2 c = let a = c .before .before .before .before .before .before .before .before .before .args in let s = a .program .now in let t = tablesIn (a .tables .now) in let b = viewed (a .tables .now) .bases in guard-passes s t b (a .left) (a .left - 1) (a .loops) (a .indices) (a .at) (progress (a .made) (a .nodes) (a .updates)) (a .list .now) (a .flags .now) (let n = c .before .before .before .before .before .before .if1 .left in omega arith) (c .before .before .before .before .before .value-at .result) (c .before .before .before .value .given .0 .0) (c .before .before .before .value .given .0 .1 .0) (c .before .before .before .value .given .1) (c .before .before .before .before .before .value-at .ensures) (c .passed .result) (subst (λ (v : ℤ). ltZ v (pos 0) ≡ true) (toZ-ofZ {w = w64} {z = c .before .before .before .value .given .0 .0} (sfits-of (c .before .before .known-told2 .given .0 .1))) (c .before .if2 .taken)) (c .passed .ensures)
 
   run-guard-sub-items : run-guard-lts.Need-sub-items (run-guard-claims t) (run-guard-at t) run-guard.Post
   run-guard-sub-items c = omega arith
@@ -351,13 +351,13 @@ module _ (t : ℕ) where
   run-guard-items-requires c κs = omega arith
 
   run-guard-returns-3 : run-guard-lts.Need-returns-3 (run-guard-claims t) (run-guard-at t) run-guard.Post
-  run-guard-returns-3 c = let a = c .before .before .before .before .before .before .before .args in let s = a .program .now in let t = tablesIn (a .tables .now) in let b = viewed (a .tables .now) .bases in guard-stop s t b (a .left) (a .left - 1) (a .loops) (a .indices) (a .at) (progress (a .made) (a .nodes) (a .updates)) (a .list .now) (a .flags .now) (let n = c .before .before .before .before .if1 .left in omega arith) (c .before .before .before .value-of .result) (c .before .number .given .0 .0) (a .list .now) (a .flags .now) (c .before .number .given .1) (c .before .before .before .value-of .ensures)
+  run-guard-returns-3 c = let a = c .before .before .before .before .before .before .before .args in let s = a .program .now in let t = tablesIn (a .tables .now) in let b = viewed (a .tables .now) .bases in guard-stop s t b (a .left) (a .left - 1) (a .loops) (a .indices) (a .at) (progress (a .made) (a .nodes) (a .updates)) (a .list .now) (a .flags .now) (let n = c .before .before .before .before .if1 .left in omega arith) (c .before .before .before .value-at .result) (c .before .number .given .0 .0) (a .list .now) (a .flags .now) (c .before .number .given .1) (c .before .before .before .value-at .ensures)
 
   run-guard-same-length : run-guard-lts.Need-same-length (run-guard-claims t) (run-guard-at t) run-guard.Post
   run-guard-same-length c = search needs
 
   run-guard-returns-4 : run-guard-lts.Need-returns-4 (run-guard-claims t) (run-guard-at t) run-guard.Post
-  run-guard-returns-4 c = let a = c .before .before .before .before .before .before .before .before .before .before .before .before .before .args in let s = a .program .now in let t = tablesIn (a .tables .now) in let b = viewed (a .tables .now) .bases in guard-runs s t b (a .left) (a .left - 1) (a .loops) (a .indices) (a .at) (progress (a .made) (a .nodes) (a .updates)) (a .list .now) (a .flags .now) (let n = c .before .before .before .before .before .before .before .before .before .before .if1 .left in omega arith) (c .before .before .before .before .before .before .before .before .before .value-of .result) (c .before .before .before .before .before .before .before .value .given .0 .0) (c .before .before .before .before .before .before .before .value .given .0 .1 .0) (c .before .before .before .before .before .before .before .value .given .1) (c .before .before .before .before .before .before .before .before .before .value-of .ensures) (c .before .before .items .result) (c .before .before .items .last .1 .1 .1 .1 .1 .1 .1 .1 .1 .1 .0) (c .before .before .items .last .1 .1 .1 .1 .1 .1 .1 .1 .1 .0) (subst (λ (v : ℤ). ltZ v (pos 0) ≡ false) (toZ-ofZ {w = w64} {z = c .before .before .before .before .before .before .before .value .given .0 .0} (sfits-of (c .before .before .before .before .before .before .known-told2 .given .0 .1))) (c .before .before .before .before .before .if2 .left)) (c .before .before .items .ensures)
+  run-guard-returns-4 c = let a = c .before .before .before .before .before .before .before .before .before .before .before .before .before .args in let s = a .program .now in let t = tablesIn (a .tables .now) in let b = viewed (a .tables .now) .bases in guard-runs s t b (a .left) (a .left - 1) (a .loops) (a .indices) (a .at) (progress (a .made) (a .nodes) (a .updates)) (a .list .now) (a .flags .now) (let n = c .before .before .before .before .before .before .before .before .before .before .if1 .left in omega arith) (c .before .before .before .before .before .before .before .before .before .value-at .result) (c .before .before .before .before .before .before .before .value .given .0 .0) (c .before .before .before .before .before .before .before .value .given .0 .1 .0) (c .before .before .before .before .before .before .before .value .given .1) (c .before .before .before .before .before .before .before .before .before .value-at .ensures) (c .before .before .items .result) (c .before .before .items .last .1 .1 .1 .1 .1 .1 .1 .1 .1 .1 .0) (c .before .before .items .last .1 .1 .1 .1 .1 .1 .1 .1 .1 .0) (subst (λ (v : ℤ). ltZ v (pos 0) ≡ false) (toZ-ofZ {w = w64} {z = c .before .before .before .before .before .before .before .value .given .0 .0} (sfits-of (c .before .before .before .before .before .before .known-told2 .given .0 .1))) (c .before .before .before .before .before .if2 .left)) (c .before .before .items .ensures)
 
   run-loop-returns : run-loop-lts.Need-returns (run-loop-claims t) (run-loop-at t) run-loop.Post
   run-loop-returns c = let a = c .before .before .before .args in let s = a .program .now in let t = tablesIn (a .tables .now) in let b = viewed (a .tables .now) .bases in nested-none s t b (a .left) (a .loops) (a .indices) (a .at) (progress (a .made) (a .nodes) (a .updates)) (a .list .now) (a .flags .now) _ (a .list .now) (a .flags .now) 2 (c .if1 .taken)
@@ -390,4 +390,4 @@ module _ (t : ℕ) where
   run-loop-returns-3 c = let a = c .before .before .before .before .before .before .before .before .before .before .before .before .args in let s = a .program .now in let t = tablesIn (a .tables .now) in let b = viewed (a .tables .now) .bases in loop-runs s t b (a .left) (a .left - 1) (a .loops) (a .indices) (a .at) (progress (a .made) (a .nodes) (a .updates)) (a .list .now) (a .flags .now) (let n = c .before .before .before .before .before .before .before .before .before .if1 .left in omega arith) (c .before .before .before .before .before .before .before .before .range-at .result) (c .before .before .before .before .before .before .first .given .0 .0) (c .before .before .before .before .before .before .first .given .0 .1 .0) (c .before .before .before .before .before .before .first .given .0 .1 .1 .0) (c .before .before .before .before .before .before .first .given .0 .1 .1 .1 .0) (c .before .before .rounds .result) (c .before .before .rounds .last .1 .1 .1 .1 .1 .1 .1 .1 .1 .1 .1 .1 .1 .1 .0) (c .before .before .rounds .last .1 .1 .1 .1 .1 .1 .1 .1 .1 .1 .1 .1 .1 .0) (c .before .before .before .before .before .before .first .given .1) (c .before .before .before .before .before .before .before .before .range-at .ensures .0) (turn-back (c .before .before .before .before .before .before .first .given .0 .0) (c .before .before .before .before .before .before .first .given .0 .1 .0) (c .before .before .before .before .before .before .first .given .0 .1 .1 .0) (sfits-of (c .before .before .before .before .before .known-told2 .given .0 .1)) (sfits-of (c .before .before .before .before .before .known-told2 .given .1 .0 .1)) (sfits-of (c .before .before .before .before .before .known-told2 .given .1 .1 .0 .1)) (λ z l i. RunsRounds s (a .at) (c .before .before .before .before .before .before .first .given .0 .1 .1 .1 .0) t b (a .left - 1) (a .loops) (a .indices) z l 65536 i 0 (progress (a .made) (a .nodes) (a .updates)) (a .list .now) (a .flags .now) (c .before .before .rounds .result) (c .before .before .rounds .last .1 .1 .1 .1 .1 .1 .1 .1 .1 .1 .1 .1 .1 .1 .0) (c .before .before .rounds .last .1 .1 .1 .1 .1 .1 .1 .1 .1 .1 .1 .1 .1 .0)) (c .before .before .rounds .ensures))
 
 pub +item+items+round+rounds+run-guard+run-loop-spec : {M : Type 1} → statement M
-+item+items+round+rounds+run-guard+run-loop-spec = close μ-item μ-items μ-round μ-rounds μ-run-guard μ-run-loop (λ t. item-lts.spec (item-claims t) (item-at t) item.Post (item-statement-requires t) (item-run-loop-requires t) (item-run-guard-requires t) (item-same-length t) (item-returns t) (item-same-length-2 t) (item-returns-2 t) (item-same-length-3 t) (item-returns-3 t) (item-returns-4 t)) (λ t. items-lts.spec (items-claims t) (items-at t) items.Post items-Inv-loop items-μ-loop (items-loop-holds t) (items-shared-slice-read-code t) (items-add-t27 t) (items-same-length t) (items-returns t) (items-item-requires t) (items-enum-known-number t) (items-same-length-2 t) (items-returns-2 t) (items-enum-known-next t) (items-same-length-3 t) (items-returns-3 t) (items-loop-less t) (items-loop-again t) (items-same-length-4 t) (items-returns-4 t)) (λ t. round-lts.spec (round-claims t) (round-at t) round.Post (round-returns t) (round-shared-slice-read-if3 t) (round-add-t20 t) (round-add-t21 t) (round-returns-2 t) (round-mul-inner t) (round-array-set-from-inner t) (round-add-items t) (round-add-items-2 t) (round-items-requires t) (round-same-length t) (round-returns-3 t)) (λ t. rounds-lts.spec (rounds-claims t) (rounds-at t) rounds.Post rounds-Inv-loop rounds-μ-loop (rounds-cast-end t) (rounds-cast-by t) (rounds-cast-index t) (rounds-loop-holds t) (rounds-goes-on-requires t) (rounds-cast-round t) (rounds-round-requires t) (rounds-enum-known-number t) (rounds-same-length t) (rounds-returns t) (rounds-enum-known-next t) (rounds-add-index t) (rounds-loop-less t) (rounds-loop-again t) (rounds-add-passed t) (rounds-passed-requires t) (rounds-same-length-2 t) (rounds-returns-2 t) (rounds-same-length-3 t) (rounds-returns-3 t)) (λ t. run-guard-lts.spec (run-guard-claims t) (run-guard-at t) run-guard.Post (run-guard-returns t) (run-guard-add-value-of t) (run-guard-value-of-requires t) (run-guard-enum-known-number t) (run-guard-enum-known-value t) (run-guard-sub-passed t) (run-guard-passed-requires t) (run-guard-returns-2 t) (run-guard-sub-items t) (run-guard-items-requires t) (run-guard-returns-3 t) (run-guard-same-length t) (run-guard-returns-4 t)) (λ t. run-loop-lts.spec (run-loop-claims t) (run-loop-at t) run-loop.Post (run-loop-returns t) (run-loop-add-range-at t) (run-loop-range-at-requires t) (run-loop-enum-known-number t) (run-loop-enum-known-first t) (run-loop-sub-rounds t) (run-loop-rounds-requires t) (run-loop-returns-2 t) (run-loop-same-length t) (run-loop-returns-3 t))
++item+items+round+rounds+run-guard+run-loop-spec = close μ-item μ-items μ-round μ-rounds μ-run-guard μ-run-loop (λ t. item-lts.spec (item-claims t) (item-at t) item.Post (item-statement-requires t) (item-run-loop-requires t) (item-run-guard-requires t) (item-same-length t) (item-returns t) (item-same-length-2 t) (item-returns-2 t) (item-same-length-3 t) (item-returns-3 t) (item-returns-4 t)) (λ t. items-lts.spec (items-claims t) (items-at t) items.Post items-Inv-loop items-μ-loop (items-loop-holds t) (items-shared-slice-read-code t) (items-add-t27 t) (items-same-length t) (items-returns t) (items-item-requires t) (items-enum-known-number t) (items-same-length-2 t) (items-returns-2 t) (items-enum-known-next t) (items-same-length-3 t) (items-returns-3 t) (items-loop-less t) (items-loop-again t) (items-same-length-4 t) (items-returns-4 t)) (λ t. round-lts.spec (round-claims t) (round-at t) round.Post (round-returns t) (round-shared-slice-read-if3 t) (round-add-t20 t) (round-add-t21 t) (round-returns-2 t) (round-mul-inner t) (round-array-set-from-inner t) (round-add-items t) (round-add-items-2 t) (round-items-requires t) (round-same-length t) (round-returns-3 t)) (λ t. rounds-lts.spec (rounds-claims t) (rounds-at t) rounds.Post rounds-Inv-loop rounds-μ-loop (rounds-cast-end t) (rounds-cast-by t) (rounds-cast-index t) (rounds-loop-holds t) (rounds-goes-on-requires t) (rounds-cast-round t) (rounds-round-requires t) (rounds-enum-known-number t) (rounds-same-length t) (rounds-returns t) (rounds-enum-known-next t) (rounds-add-index t) (rounds-loop-less t) (rounds-loop-again t) (rounds-add-passed t) (rounds-passed-requires t) (rounds-same-length-2 t) (rounds-returns-2 t) (rounds-same-length-3 t) (rounds-returns-3 t)) (λ t. run-guard-lts.spec (run-guard-claims t) (run-guard-at t) run-guard.Post (run-guard-returns t) (run-guard-add-value-at t) (run-guard-value-at-requires t) (run-guard-enum-known-number t) (run-guard-enum-known-value t) (run-guard-sub-passed t) (run-guard-passed-requires t) (run-guard-returns-2 t) (run-guard-sub-items t) (run-guard-items-requires t) (run-guard-returns-3 t) (run-guard-same-length t) (run-guard-returns-4 t)) (λ t. run-loop-lts.spec (run-loop-claims t) (run-loop-at t) run-loop.Post (run-loop-returns t) (run-loop-add-range-at t) (run-loop-range-at-requires t) (run-loop-enum-known-number t) (run-loop-enum-known-first t) (run-loop-sub-rounds t) (run-loop-rounds-requires t) (run-loop-returns-2 t) (run-loop-same-length t) (run-loop-returns-3 t))

@@ -13,35 +13,35 @@ mul-if1 c = search needs
 shared-slice-read-if1 : tie.Need-shared-slice-read-if1
 shared-slice-read-if1 c = search needs
 
-add-number : tie.Need-add-number
-add-number c = search needs
+add-wide : tie.Need-add-wide
+add-wide c = search needs
 
-mul-number : tie.Need-mul-number
-mul-number c = search needs
+mul-wide : tie.Need-mul-wide
+mul-wide c = search needs
 
-shared-slice-read-number : tie.Need-shared-slice-read-number
-shared-slice-read-number c = search needs
+shared-slice-read-wide : tie.Need-shared-slice-read-wide
+shared-slice-read-wide c = search needs
 
-number-requires : tie.Need-number-requires
-number-requires c κs = search needs
+wide-requires : tie.Need-wide-requires
+wide-requires c κs = search needs
 
-add-number-2 : tie.Need-add-number-2
-add-number-2 c = search needs
+add-wide-2 : tie.Need-add-wide-2
+add-wide-2 c = search needs
 
-mul-number-2 : tie.Need-mul-number-2
-mul-number-2 c = search needs
+mul-wide-2 : tie.Need-mul-wide-2
+mul-wide-2 c = search needs
 
-shared-slice-read-number-2 : tie.Need-shared-slice-read-number-2
-shared-slice-read-number-2 c = search needs
+shared-slice-read-wide-2 : tie.Need-shared-slice-read-wide-2
+shared-slice-read-wide-2 c = search needs
 
-number-requires-2 : tie.Need-number-requires-2
-number-requires-2 c κs = search needs
+wide-requires-2 : tie.Need-wide-requires-2
+wide-requires-2 c κs = search needs
 
 may-read-requires : tie.Need-may-read-requires
 may-read-requires c κs = search needs
 
 returns : tie.Need-returns
-returns c = let a = c .before .before .before .before .before .before .before .before .args in c .may-read .ensures ∙ record-read (mayRead (tablesIn (a .tables .now)) (viewed (a .tables .now) .bases) (a .flags .now)) (a .list .now) (a .at) (eq-eqb _ _ (c .before .before .before .before .before .if1 .taken)) _ _ (c .before .before .before .number .ensures) (c .before .number2 .ensures)
+returns c = let a = c .before .before .before .before .before .before .before .before .args in c .may-read .ensures ∙ record-read (mayRead (tablesIn (a .tables .now)) (viewed (a .tables .now) .bases) (a .flags .now)) (a .list .now) (a .at) (eq-eqb _ _ (c .before .before .before .before .before .if1 .taken)) _ _ (c .before .before .before .wide .ensures) (c .before .wide2 .ensures)
 
 returns-2 : tie.Need-returns-2
 returns-2 c = let a = c .before .before .before .args in record-other (mayRead (tablesIn (a .tables .now)) (viewed (a .tables .now) .bases) (a .flags .now)) (a .list .now) (a .at) (ne-eqb _ _ (c .if1 .left))
@@ -52,14 +52,14 @@ record-fine-spec =
     (tie.spec
     mul-if1
     shared-slice-read-if1
-    add-number
-    mul-number
-    shared-slice-read-number
-    number-requires
-    add-number-2
-    mul-number-2
-    shared-slice-read-number-2
-    number-requires-2
+    add-wide
+    mul-wide
+    shared-slice-read-wide
+    wide-requires
+    add-wide-2
+    mul-wide-2
+    shared-slice-read-wide-2
+    wide-requires-2
     may-read-requires
     returns
     returns-2)

@@ -3,8 +3,8 @@ use Rattle.unroller.proofs.Records.{literal-no, literal-is}
 use Rattle.unroller.proofs.statement.write_literal.Statement.{statement}
 use Rattle.unroller.proofs.statement.write_literal.Tie as tie
 
-value-of-requires : tie.Need-value-of-requires
-value-of-requires c κs = search needs
+value-at-requires : tie.Need-value-at-requires
+value-at-requires c κs = search needs
 
 enum-known-number : tie.Need-enum-known-number
 enum-known-number c = search needs
@@ -22,19 +22,19 @@ add-t16 : tie.Need-add-t16
 add-t16 c = search needs
 
 returns : tie.Need-returns
-returns c = literal-no _ _ _ _ _ _ _ (c .before .before .before .value-of .result) (c .before .before .before .value-of .ensures) _ (c .before .number .given .1)
+returns c = literal-no _ _ _ _ _ _ _ (c .before .before .before .value-at .result) (c .before .before .before .value-at .ensures) _ (c .before .number .given .1)
 
 same-length : tie.Need-same-length
 same-length c = search needs
 
 returns-2 : tie.Need-returns-2
-returns-2 c = literal-is _ _ _ _ _ _ _ (c .before .before .before .before .before .before .before .before .value-of .result) (c .before .before .before .before .before .before .before .before .value-of .ensures) (c .before .before .before .before .before .before .v .given .0 .0) _ (c .before .before .before .bits-of .result) (search needs) (c .before .before .before .before .before .before .v .given .1) (c .before .before .before .bits-of .ensures) (c .before .before .put .ensures)
+returns-2 c = literal-is _ _ _ _ _ _ _ (c .before .before .before .before .before .before .before .before .value-at .result) (c .before .before .before .before .before .before .before .before .value-at .ensures) (c .before .before .before .before .before .before .v .given .0 .0) _ (c .before .before .before .bits-of .result) (search needs) (c .before .before .before .before .before .before .v .given .1) (c .before .before .before .bits-of .ensures) (c .before .before .put .ensures)
 
 pub write-literal-spec : {M : Type 1} → statement M
 write-literal-spec =
     tie.close
     (tie.spec
-    value-of-requires
+    value-at-requires
     enum-known-number
     enum-known-v
     bits-of-requires

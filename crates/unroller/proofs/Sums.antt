@@ -1,0 +1,129 @@
+-- Sums of a form's products, and its coefficients as one number.
+use mathlib.Core.Path.{_≡_, refl, sym, ap, ap₂, _∙_}
+use Prim.Native.Nat.{ℕ, zero, suc, _+_, _-_, _*_, _/_, _%_, _^_, _≤_, _<_}
+use native.Mathlib.Nat.{div-one, zero-div, div-eq-of-lt}
+use native.Mathlib.Omega.{arith}
+use mathlib.Core.List.{List}
+use mathlib.Core.Bool.{true, false, false≢true, true≢false}
+use lib.ListN.{getD}
+use lib.Dec.{T, leb·zero}
+use lib.Signed.{leZ, nonNeg}
+use lib.IntN.{ℤ, pos, negsuc, natAbs, _+ℤ_, _*ℤ_, +ℤ-idr, zero-*ℤ}
+use lib.Pow.{shr-shr}
+use mir.Syntax.{w8}
+use mir.Val.{SFits, Fits, toZ, ofZ}
+use mir.Facts.{toZ-ofZ, toZ-pos}
+use Rattle.reader.specs.Entries.{bytesOf}
+use Rattle.reader.proofs.Numbers.{by-order}
+use Rattle.unroller.specs.Forms.{formSum, Packs}
+
+-- the bits of a signed byte, by its sign
+module _ (c : ℤ) (f : SFits w8 c) where
+  abbrev back : ℤ
+  back = toZ w8 (ofZ w8 c)
+
+  same : back ≡ c
+  same = toZ-ofZ {w = w8} {z = c} f
+
+  pub plus-cast : leZ (pos 0) back ≡ true → T (nonNeg back) × Fits w8 (natAbs back)
+  plus-cast e = rw same (go c f (rw same at e))
+    where
+      go : (c : ℤ) → SFits w8 c → leZ (pos 0) c ≡ true → T (nonNeg c) × Fits w8 (natAbs c)
+      go (pos n) f e = (tt, record { fits = let h = f .sfits in omega arith })
+      go (negsuc n) f e = absurd (false≢true e)
+
+  pub plus-is : leZ (pos 0) back ≡ true → natAbs back ≡ ofZ w8 c
+  plus-is e = ap natAbs same ∙ go c (rw same at e)
+    where
+      go : (c : ℤ) → leZ (pos 0) c ≡ true → natAbs c ≡ ofZ w8 c
+      go (pos n) e = refl
+      go (negsuc n) e = absurd (false≢true e)
+
+  minus : leZ (pos 0) back ≡ false → (n : ℕ) × (ofZ w8 c ≡ 255 - n) × (n < 128) × (toZ w8 (255 - ofZ w8 c) ≡ pos n)
+  minus e = go c f (rw same at e)
+    where
+      go : (c : ℤ) → SFits w8 c → leZ (pos 0) c ≡ false → (n : ℕ) × (ofZ w8 c ≡ 255 - n) × (n < 128) × (toZ w8 (255 - ofZ w8 c) ≡ pos n)
+      go (pos n) f e = absurd (true≢false (sym (leb·zero n) ∙ e))
+      go (negsuc n) f e = let h : n < 128 = f .sfits in let q : 255 - (256 - suc n) ≡ n = omega arith in (n, omega arith, h, ap (toZ w8) q ∙ toZ-pos w8 h)
+
+  pub minus-cast : leZ (pos 0) back ≡ false → T (nonNeg (toZ w8 (255 - ofZ w8 c))) × Fits w8 (natAbs (toZ w8 (255 - ofZ w8 c)))
+  minus-cast e = let a = minus e in rw (a .3) (tt, record { fits = let h = a .2 in omega arith })
+
+  pub minus-most : leZ (pos 0) back ≡ false → natAbs (toZ w8 (255 - ofZ w8 c)) ≤ 255
+  minus-most e = let a = minus e in rw (a .3) (let h = a .2 in omega arith)
+
+  pub minus-is : leZ (pos 0) back ≡ false → 255 - natAbs (toZ w8 (255 - ofZ w8 c)) ≡ ofZ w8 c
+  minus-is e = let a = minus e in rw (a .3) (let h = a .1 in omega arith)
+
+  pub byte-back : (b : ℕ) → b ≡ ofZ w8 back → toZ w8 b ≡ c
+  byte-back b e = ap (toZ w8) (e ∙ ap (ofZ w8) same) ∙ same
+
+-- products with 0 add nothing
+pub sum-still : (z : ℤ) (cs is : List ℤ) (m n : ℕ) → ((j : ℕ) → m ≤ j → j < m + n → getD cs j (pos 0) ≡ pos 0) → formSum z cs is (m + n) ≡ formSum z cs is m
+unfolding formSum
+sum-still z cs is m zero h = let e : m + 0 ≡ m = omega arith in rw e
+sum-still z cs is m (suc n) h =
+    let e : m + suc n ≡ suc (m + n) = omega arith in
+    ap (formSum z cs is) e
+    ∙ ap (λ (x : ℤ). formSum z cs is (m + n) +ℤ (x *ℤ getD is (m + n) (pos 0))) (h (m + n) (omega arith) (omega arith))
+    ∙ ap (λ (x : ℤ). formSum z cs is (m + n) +ℤ x) (zero-*ℤ (getD is (m + n) (pos 0)))
+    ∙ +ℤ-idr (formSum z cs is (m + n))
+    ∙ sum-still z cs is m n (λ j a b. h j a (omega arith))
+
+-- a sum hangs on the numbers alone
+sum-same : (z : ℤ) (cs ds is : List ℤ) (n : ℕ) → ((k : ℕ) → k < n → getD cs k (pos 0) ≡ getD ds k (pos 0)) → formSum z cs is n ≡ formSum z ds is n
+unfolding formSum
+sum-same z cs ds is zero h = refl
+sum-same z cs ds is (suc n) h =
+    ap₂ (λ (x y : ℤ). x +ℤ (y *ℤ getD is n (pos 0))) (sum-same z cs ds is n (λ k a. h k (omega arith))) (h n (omega arith))
+
+getD-bytes : (n w k : ℕ) → k < n → getD (bytesOf n w) k (pos 0) ≡ toZ w8 (w / 2 ^ (8 * k) % 256)
+unfolding bytesOf
+getD-bytes zero w k h = absurd (omega arith)
+getD-bytes (suc n) w zero h = ap (λ (x : ℕ). toZ w8 (x % 256)) (sym (div-one w))
+getD-bytes (suc n) w (suc k) h =
+    let e : 8 + 8 * k ≡ 8 * suc k = omega arith in
+    getD-bytes n (w / 256) k (omega arith) ∙ ap (λ (x : ℕ). toZ w8 (x % 256)) (shr-shr w 8 (8 * k) ∙ ap (λ (x : ℕ). w / 2 ^ x) e)
+
+pub packs-eight : (cs : List ℤ) (a b c d e f g h : ℕ) → a < 256 → b < 256 → c < 256 → d < 256 → e < 256 → f < 256 → g < 256 → h < 256 →
+    toZ w8 a ≡ getD cs 0 (pos 0) → toZ w8 b ≡ getD cs 1 (pos 0) → toZ w8 c ≡ getD cs 2 (pos 0) → toZ w8 d ≡ getD cs 3 (pos 0) →
+    toZ w8 e ≡ getD cs 4 (pos 0) → toZ w8 f ≡ getD cs 5 (pos 0) → toZ w8 g ≡ getD cs 6 (pos 0) → toZ w8 h ≡ getD cs 7 (pos 0) →
+    Packs cs (a + 256 * (b + 256 * (c + 256 * (d + 256 * (e + 256 * (f + 256 * (g + 256 * h)))))))
+unfolding Packs
+packs-eight cs a b c d e f g h la lb lc ld le lf lg lh pa pb pc pd pe pf pg ph k l = getD-bytes 8 (a + 256 * (b + 256 * (c + 256 * (d + 256 * (e + 256 * (f + 256 * (g + 256 * h))))))) k l ∙ go k l
+  where
+    go : (k : ℕ) → k < 8 → toZ w8 ((a + 256 * (b + 256 * (c + 256 * (d + 256 * (e + 256 * (f + 256 * (g + 256 * h))))))) / 2 ^ (8 * k) % 256) ≡ getD cs k (pos 0)
+    go zero l = let q : (a + 256 * (b + 256 * (c + 256 * (d + 256 * (e + 256 * (f + 256 * (g + 256 * h))))))) / 1 % 256 ≡ a = omega arith in ap (toZ w8) q ∙ pa
+    go (suc zero) l = let q : (a + 256 * (b + 256 * (c + 256 * (d + 256 * (e + 256 * (f + 256 * (g + 256 * h))))))) / 256 % 256 ≡ b = omega arith in ap (toZ w8) q ∙ pb
+    go (suc (suc zero)) l = let q : (a + 256 * (b + 256 * (c + 256 * (d + 256 * (e + 256 * (f + 256 * (g + 256 * h))))))) / 65536 % 256 ≡ c = omega arith in ap (toZ w8) q ∙ pc
+    go (suc (suc (suc zero))) l = let q : (a + 256 * (b + 256 * (c + 256 * (d + 256 * (e + 256 * (f + 256 * (g + 256 * h))))))) / 16777216 % 256 ≡ d = omega arith in ap (toZ w8) q ∙ pd
+    go (suc (suc (suc (suc zero)))) l = let q : (a + 256 * (b + 256 * (c + 256 * (d + 256 * (e + 256 * (f + 256 * (g + 256 * h))))))) / 4294967296 % 256 ≡ e = omega arith in ap (toZ w8) q ∙ pe
+    go (suc (suc (suc (suc (suc zero))))) l = let q : (a + 256 * (b + 256 * (c + 256 * (d + 256 * (e + 256 * (f + 256 * (g + 256 * h))))))) / 1099511627776 % 256 ≡ f = omega arith in ap (toZ w8) q ∙ pf
+    go (suc (suc (suc (suc (suc (suc zero)))))) l = let q : (a + 256 * (b + 256 * (c + 256 * (d + 256 * (e + 256 * (f + 256 * (g + 256 * h))))))) / 281474976710656 % 256 ≡ g = omega arith in ap (toZ w8) q ∙ pg
+    go (suc (suc (suc (suc (suc (suc (suc zero))))))) l = let q : (a + 256 * (b + 256 * (c + 256 * (d + 256 * (e + 256 * (f + 256 * (g + 256 * h))))))) / 72057594037927936 % 256 ≡ h = omega arith in ap (toZ w8) q ∙ ph
+    go (suc (suc (suc (suc (suc (suc (suc (suc k)))))))) l = absurd (omega arith)
+
+-- the numbers of w from number k on, still to be worked out
+module _ (w k rest : ℕ) (small : w < 2 ^ 64) (few : k ≤ 8) (e : rest ≡ w / 2 ^ (8 * k)) where
+  pub rest-few : (rest ≡ 0 → ⊥) → k < 8
+  rest-few h = by-order (k + 1) 8 (λ a. omega arith) (λ a. absurd (h (let m : k ≡ 8 = omega arith in e ∙ ap (λ (x : ℕ). w / 2 ^ (8 * x)) m ∙ div-eq-of-lt small)))
+
+  pub rest-first : k < 8 → toZ w8 (rest % 256) ≡ getD (bytesOf 8 w) k (pos 0)
+  rest-first h = ap (λ (x : ℕ). toZ w8 (x % 256)) e ∙ sym (getD-bytes 8 w k h)
+
+  pub rest-next : rest / 256 ≡ w / 2 ^ (8 * (k + 1))
+  rest-next =
+      let m : 8 * k + 8 ≡ 8 * (k + 1) = omega arith in
+      ap (λ (x : ℕ). x / 256) e ∙ shr-shr w (8 * k) 8 ∙ ap (λ (x : ℕ). w / 2 ^ x) m
+
+  pub rest-none : (z : ℤ) (cs is : List ℤ) → Packs cs w → rest ≡ 0 → formSum z (bytesOf 8 w) is k ≡ formSum z cs is 8
+  unfolding Packs
+  rest-none z cs is p h =
+      let m : k + (8 - k) ≡ 8 = omega arith in
+      sym (sum-still z (bytesOf 8 w) is k (8 - k) zero-byte) ∙ ap (formSum z (bytesOf 8 w) is) m ∙ sum-same z (bytesOf 8 w) cs is 8 p
+    where
+      zero-byte : (j : ℕ) → k ≤ j → j < k + (8 - k) → getD (bytesOf 8 w) j (pos 0) ≡ pos 0
+      zero-byte j a b =
+          let m : 8 * j ≡ 8 * k + 8 * (j - k) = omega arith in
+          let q : w / 2 ^ (8 * j) ≡ 0 = ap (λ (x : ℕ). w / 2 ^ x) m ∙ sym (shr-shr w (8 * k) (8 * (j - k))) ∙ ap (λ (x : ℕ). x / 2 ^ (8 * (j - k))) (sym e ∙ h) ∙ zero-div (2 ^ (8 * (j - k))) in
+          getD-bytes 8 w j (omega arith) ∙ ap (λ (x : ℕ). toZ w8 (x % 256)) q
