@@ -5,18 +5,54 @@ use mathlib.Core.List.{List, [], _∷_}
 use native.Mathlib.Omega.{arith}
 use native.Mathlib.Numerals.{sub-one}
 use lib.ListN.{length, getD}
+use borrow.Author.Tests.{eq-eqb, ne-eqb}
 use Rattle.model.specs.Tables.{Tables, arrayAt}
-use Rattle.reader.specs.Field.{Outcome, got, no, Reader, andThen, times}
+use Rattle.reader.specs.Field.{Outcome, got, no, Reader, andThen, byte, times}
 use Rattle.reader.specs.Syntax.{Expr, Exprs, count, counts}
-use Rattle.reader.specs.Syntax.Expr.{read, apply}
+use Rattle.reader.specs.Syntax.Expr.{read, apply, literal, named}
 use Rattle.reader.specs.Syntax.Exprs.{none, more}
 use Rattle.reader.specs.Grammar.{form, subscripts, index, readOf, applyOf, node, applied}
 use Rattle.reader.specs.Answers.{through, ended, fieldSays, placeSays}
+use Rattle.reader.specs.Entries.{leafOf, arityOf}
 use Rattle.reader.specs.declared.fields.Field.{Field}
 use Rattle.reader.specs.declared.fields.Field.the-variants as field
 use Rattle.reader.specs.declared.fields.Place.{Place}
-use Rattle.reader.proofs.Steps.{field-got, field-no, through-got, through-no, made, refused, step, stop, one-made, through-same, remade}
-use Rattle.reader.proofs.Forward.{held-got, Counted, Counteds, nodes-held, arguments-held}
+use Rattle.reader.proofs.Steps.{field-got, field-no, through-got, through-no, made, refused, step, stop, one-made, remade, index-got, index-no}
+use Rattle.reader.proofs.Binds.{not-got, read-by}
+use Rattle.reader.proofs.Forward.{held-got, Counted, Counteds, index-held, nodes-held, arguments-held}
+
+module _ (t : Tables) (s : List ℕ) where
+  -- the arity of an operator, by its number
+  pub arity-none : (left p at : ℕ) → left ≡ 0 → no 12 p ≡ arityOf t left p s at
+  unfolding arityOf
+  arity-none zero p at h = refl
+  arity-none (suc left) p at h = absurd (omega arith)
+
+  module _ (p at : ℕ) {r : Field} {m : ℕ} (w : m ≡ length (t .arities)) (e : fieldSays r ≡ index m s at) where
+    pub arity-not : (left : ℕ) {k q : ℕ} → 0 < left → r ≡ field.Not k q → no k q ≡ arityOf t left p s at
+    unfolding arityOf
+    arity-not zero h v = absurd (omega arith)
+    arity-not (suc left) {k} {q} h v = stop (λ m. m) (index (length (t .arities)) s at) _ (index-no m (length (t .arities)) s at w e v) refl
+
+    pub arity-is : (left : ℕ) {o next n : ℕ} → 0 < left → r ≡ field.Is o next → n ≡ getD (t .arities) o 0 → got n next ≡ arityOf t left p s at
+    unfolding arityOf
+    arity-is zero h v x = absurd (omega arith)
+    arity-is (suc left) {o} {next} h v x = step (λ m. m) (index (length (t .arities)) s at) _ (index-got m (length (t .arities)) s at w e v) (ap (λ (n : ℕ). got n next) x)
+
+  arity-by : {P : Type 0} (left p at : ℕ) {n next : ℕ} → arityOf t left p s at ≡ got n next →
+      ((o : ℕ) → 0 < left → index (length (t .arities)) s at ≡ got o next → n ≡ getD (t .arities) o 0 → P) → P
+  unfolding arityOf
+  arity-by zero p at e k = not-got e
+  arity-by (suc left) p at {n} {next} e k = read-by (index (length (t .arities)) s at) _ e λ o x e1 v.
+      k o (omega arith) (let w : x ≡ next = cc in e1 ∙ ap (got o) w) (cc)
+
+  -- an operator takes its number's byte, and a level of nesting
+  pub arity-held : (left p at : ℕ) {n next : ℕ} → arityOf t left p s at ≡ got n next → (0 < left) × (next ≡ at + 1) × (next ≤ length s)
+  arity-held left p at e = arity-by left p at e λ o w x y. let h = held-got (λ x n. (x < length (t .arities)) × (n ≡ at + 1) × (n ≤ length s)) (index-held s (length (t .arities)) at) x in (w, h .1, h .2)
+
+  number-no : (at : ℕ) {k q : ℕ} → andThen (index (length (t .arities)) s at) (λ o next. got (getD (t .arities) o 0) next) ≡ no k q → index (length (t .arities)) s at ≡ no k q
+  unfolding through
+  number-no at e = through-no (λ o. getD (t .arities) o 0) (index (length (t .arities)) s at) e
 
 module _ (t : Tables) (loops : ℕ) (s : List ℕ) where
   -- a read's subscripts, by the number of dimensions
@@ -28,15 +64,25 @@ module _ (t : Tables) (loops : ℕ) (s : List ℕ) where
       (k ∙ one-made (times [] _∷_ (form loops) (length (arrayAt (t .arrays) a .extents)) s next) (read a) count p
       (h ∙ ap (λ (n : ℕ). ended (times [] _∷_ (form loops) n s next)) w) (λ fs. refl))
 
-  pub applied-none : (left at next : ℕ) → left ≡ 0 → no 12 at ≡ through count (applied t loops left at s next)
-  unfolding applied through
-  applied-none zero at next h = refl
-  applied-none (suc left) at next h = absurd (omega arith)
+  -- a node by its code
+  module _ (at : ℕ) {code next : ℕ} (e : byte s at ≡ got code next) (own : ℕ → Reader Expr) {q : Outcome ℕ} where
+    pub node-leaf : (code ≡ 0x11 → ⊥) → q ≡ through count (leafOf t loops code at s next) → q ≡ through count (node t loops own s at)
+    unfolding node leafOf
+    node-leaf h k = step (through count) (byte s at) _ e (rw (ne-eqb code 0x11 h) k)
 
-  pub applied-some : (left at next : ℕ) {q : Outcome ℕ} → (left ≡ 0 → ⊥) → q ≡ through count (applyOf t loops (node t loops (applied t loops (left - 1))) s next) →
+    pub node-operator : code ≡ 0x11 → q ≡ through count (own at s next) → q ≡ through count (node t loops own s at)
+    unfolding node
+    node-operator h k = step (through count) (byte s at) _ e (rw (eq-eqb code 0x11 h, h) k)
+
+  pub applied-no : (left p at : ℕ) {k q : ℕ} → arityOf t left p s at ≡ no k q → no k q ≡ through count (applied t loops left p s at)
+  unfolding arityOf applied applyOf
+  applied-no zero p at e = sym e ∙ refused count refl
+  applied-no (suc left) p at {k} {q} e = stop (through count) (index (length (t .arities)) s at) _ (number-no t s at e) (refused count refl)
+
+  applied-some : (left at next : ℕ) {q : Outcome ℕ} → 0 < left → q ≡ through count (applyOf t loops (node t loops (applied t loops (left - 1))) s next) →
       q ≡ through count (applied t loops left at s next)
   unfolding applied
-  applied-some zero at next h e = absurd (h refl)
+  applied-some zero at next h e = absurd (omega arith)
   applied-some (suc left) at next h e = simp sub-one at e
 
   module _ (left at : ℕ) {o next n : ℕ} (e : index (length (t .arities)) s at ≡ got o next) (w : n ≡ getD (t .arities) o 0)
@@ -47,44 +93,86 @@ module _ (t : Tables) (loops : ℕ) (s : List ℕ) where
     said : fieldSays r ≡ through counts args
     said = h ∙ ap (λ (k : ℕ). through counts (times none more (node t loops (applied t loops left)) k s next)) w
 
-    pub apply-no : {k p : ℕ} → r ≡ field.Not k p → no k p ≡ through count (applyOf t loops (node t loops (applied t loops left)) s at)
+    apply-no : {k p : ℕ} → r ≡ field.Not k p → no k p ≡ through count (applyOf t loops (node t loops (applied t loops left)) s at)
     unfolding applyOf
     apply-no q = step (through count) (index (length (t .arities)) s at) _ e (stop (through count) args _ (through-no counts args (field-no said q)) (refused count refl))
 
-    pub apply-is : {k past : ℕ} → r ≡ field.Is k past → got (k + 1) past ≡ through count (applyOf t loops (node t loops (applied t loops left)) s at)
+    apply-is : {k past c : ℕ} → r ≡ field.Is k past → c ≡ k + 1 → got c past ≡ through count (applyOf t loops (node t loops (applied t loops left)) s at)
     unfolding applyOf count
-    apply-is {k} {past} q =
+    apply-is {k} {past} {c} q d =
         let g = through-got counts args (field-got said q) in
-        let v : k + 1 ≡ suc (counts (g .0)) = omega (arith, g .2) in
+        let v : c ≡ suc (counts (g .0)) = omega (arith, g .2) in
         step (through count) (index (length (t .arities)) s at) _ e (step (through count) args _ (g .1) (ap (λ (x : ℕ). got x past) v ∙ made count refl))
 
-    pub apply-fits : next ≤ length s → {k past : ℕ} → r ≡ field.Is k past → (next + k ≤ past) × (past ≤ length s)
-    apply-fits b q =
-        let g = through-got counts args (field-got said q) in
-        let v = held-got (Counteds s t loops next) (arguments-held s t loops left (getD (t .arities) o 0) next b) (g .1) in
-        (omega (arith, g .2, v .0), v .1)
+  -- an operator by its arity, and what its arguments answer
+  module _ (left p at : ℕ) {n first : ℕ} (e : arityOf t left p s at ≡ got n first)
+      (r : Field) (h : fieldSays r ≡ through counts (times none more (node t loops (applied t loops (left - 1))) n s first)) where
+    pub operator-no : {k q : ℕ} → r ≡ field.Not k q → no k q ≡ through count (applied t loops left p s at)
+    operator-no v = arity-by t s left p at e λ o w x y. applied-some left p at w (apply-no (left - 1) at x y r h v)
 
--- arguments in a row, as a loop takes them, c nodes being counted
-module _ (one : Reader Expr) (s : List ℕ) (c : ℕ) where
-  pub args-none : (m : Outcome Exprs) → through (λ es. 0 + counts es) m ≡ through counts m
-  args-none m = through-same (λ es. 0 + counts es) counts m (λ es. omega arith)
+    pub operator-is : {k past c : ℕ} → r ≡ field.Is k past → c ≡ k + 1 → got c past ≡ through count (applied t loops left p s at)
+    operator-is v d = arity-by t s left p at e λ o w x y. applied-some left p at w (apply-is (left - 1) at x y r h v d)
 
-  pub args-end : (n at : ℕ) → n ≤ 0 → got c at ≡ through (λ es. c + counts es) (times none more one n s at)
+-- arguments that remain, the first of them read by `one`
+module _ (one : Reader Expr) (s : List ℕ) where
+  pub args-none : (n at : ℕ) → n ≡ 0 → got 0 at ≡ through counts (times none more one n s at)
   unfolding times through counts
-  args-end zero at h = let e : c ≡ c + 0 = omega arith in ap (λ (x : ℕ). got x at) e
-  args-end (suc n) at h = absurd (omega arith)
+  args-none zero at h = refl
+  args-none (suc n) at h = absurd (omega arith)
 
-  pub args-stop : (n at : ℕ) {r : Field} {k p : ℕ} → 0 < n → fieldSays r ≡ through count (one s at) → r ≡ field.Not k p → no k p ≡ through (λ es. c + counts es) (times none more one n s at)
-  unfolding times
-  args-stop zero at h e q = absurd (omega arith)
-  args-stop (suc n) at h e q = stop (through (λ es. c + counts es)) (one s at) _ (through-no count (one s at) (field-no e q)) (refused _ refl)
-
-  pub args-step : (n at : ℕ) {r : Field} {k next : ℕ} → 0 < n → fieldSays r ≡ through count (one s at) → r ≡ field.Is k next →
-      through (λ es. c + k + counts es) (times none more one (n - 1) s next) ≡ through (λ es. c + counts es) (times none more one n s at)
+  -- a single one is an expression
+  pub args-one : (at : ℕ) → through counts (times none more one 1 s at) ≡ through count (one s at)
   unfolding times counts
-  args-step zero at h e q = absurd (omega arith)
-  args-step (suc n) at {k = k} {next = next} h e q =
-      let g = through-got count (one s at) (field-got e q) in
-      simp sub-one
-      (step (through (λ es. c + counts es)) (one s at) _ (g .1)
-      (remade (more (g .0)) (λ es. c + counts es) (λ es. c + k + counts es) (times none more one n s next) (λ es. omega (arith, g .2))))
+  args-one at = sym (remade (λ e. more e none) counts count (one s at) (λ e. omega arith))
+
+  module _ (at : ℕ) {r : Field} (e : fieldSays r ≡ through count (one s at)) where
+    pub args-stop : (n : ℕ) {k p : ℕ} → 0 < n → r ≡ field.Not k p → no k p ≡ through counts (times none more one n s at)
+    unfolding times
+    args-stop zero h q = absurd (omega arith)
+    args-stop (suc n) h q = stop (through counts) (one s at) _ (through-no count (one s at) (field-no e q)) (refused counts refl)
+
+    pub args-last : (n : ℕ) {k next : ℕ} → n ≡ 1 → r ≡ field.Is k next → got k next ≡ through counts (times none more one n s at)
+    args-last n h q = sym (field-got e q) ∙ sym (args-one at) ∙ ap (λ (n : ℕ). through counts (times none more one n s at)) (sym h)
+
+    module _ {k next : ℕ} (q : r ≡ field.Is k next) {m : Field} {l : ℕ} (f : fieldSays m ≡ through counts (times none more one l s next)) where
+      pub args-cut : (n : ℕ) {j p : ℕ} → n ≡ suc l → m ≡ field.Not j p → no j p ≡ through counts (times none more one n s at)
+      unfolding times
+      args-cut zero h v = absurd (omega arith)
+      args-cut (suc n) h v =
+          let g = through-got count (one s at) (field-got e q) in
+          let w : l ≡ n = omega arith in
+          let b = rw w at f in
+          step (through counts) (one s at) _ (g .1) (stop (through counts) (times none more one n s next) _ (through-no counts (times none more one n s next) (field-no b v)) (refused counts refl))
+
+      pub args-all : (n : ℕ) {j end c : ℕ} → n ≡ suc l → m ≡ field.Is j end → c ≡ k + j → got c end ≡ through counts (times none more one n s at)
+      unfolding times counts
+      args-all zero h v d = absurd (omega arith)
+      args-all (suc n) {j} {end} {c} h v d =
+          let g = through-got count (one s at) (field-got e q) in
+          let w : l ≡ n = omega arith in
+          let b = rw w at f in
+          let i = through-got counts (times none more one n s next) (field-got b v) in
+          let x : c ≡ count (g .0) + counts (i .0) = omega (arith, g .2, i .2) in
+          step (through counts) (one s at) _ (g .1) (step (through counts) (times none more one n s next) _ (i .1) (ap (λ (y : ℕ). got y end) x ∙ made counts refl))
+
+count-some : (e : Expr) → 1 ≤ count e
+unfolding count
+count-some (read a fs) = omega arith
+count-some (apply o es) = omega arith
+count-some (literal f) = omega arith
+count-some (named n) = omega arith
+
+module _ (t : Tables) (loops left : ℕ) (s : List ℕ) (at : ℕ) {r : Field} where
+  -- a node, and each of its nodes, takes a byte at least
+  pub node-fits : fieldSays r ≡ through count (node t loops (applied t loops left) s at) → {k next : ℕ} → r ≡ field.Is k next → (1 ≤ k) × (at + k ≤ next) × (next ≤ length s)
+  node-fits e q =
+      let g = through-got count (node t loops (applied t loops left) s at) (field-got e q) in
+      let v = held-got (Counted s t loops at) (nodes-held s t loops left at) (g .1) in
+      let c = count-some (g .0) in
+      (omega (arith, g .2, c), omega (arith, g .2, v .0), v .1)
+
+  pub args-fits : (n : ℕ) → at ≤ length s → fieldSays r ≡ through counts (times none more (node t loops (applied t loops left)) n s at) → {k end : ℕ} → r ≡ field.Is k end → (at + k ≤ end) × (end ≤ length s)
+  args-fits n b e q =
+      let g = through-got counts (times none more (node t loops (applied t loops left)) n s at) (field-got e q) in
+      let v = held-got (Counteds s t loops at) (arguments-held s t loops left n at b) (g .1) in
+      (omega (arith, g .2, v .0), v .1)

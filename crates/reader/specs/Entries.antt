@@ -3,16 +3,16 @@ use Prim.Native.Nat.{ℕ, zero, suc, _+_, _-_, _*_, _/_, _%_, _^_, _≤_, _<_, m
 use mathlib.Core.List.{List, [], _∷_, _++_, map}
 use mathlib.Core.Bool.{_&&_}
 use lib.ListN.{length, getD, take, replicate}
-use lib.Dec.{leb}
+use lib.Dec.{leb, eqb}
 use lib.IntN.{ℤ, pos}
 use mir.Syntax.{w8}
 use mir.Val.{toZ}
 use mathlib.Core.Path.{_≡_}
 use Rattle.model.specs.Test.{if_then_else_}
-use Rattle.reader.specs.Field.{Outcome, got, no, Reader}
+use Rattle.reader.specs.Field.{Outcome, got, no, Reader, _>>=_, give, refuse}
 use Rattle.model.specs.Tables.{Array, Tables, cells}
-use Rattle.reader.specs.Syntax.{Form, Items}
-use Rattle.reader.specs.Grammar.{form, body}
+use Rattle.reader.specs.Syntax.{Form, Expr, Items}
+use Rattle.reader.specs.Grammar.{form, index, readOf, literalOf, constantOf, body}
 use Rattle.reader.specs.Answers.{placed}
 use Rattle.reader.specs.declared.fields.Place.{Place}
 use Rattle.reader.specs.declared.fields.Place.the-variants as place
@@ -60,6 +60,21 @@ pub record FormIs (loops : ℕ) (m : Outcome Form) (r : FormRead) : Type 0 where
   pub says : formSays loops r ≡ m
   pub constant : r .constant ≡ constantIn m
   pub coefficients : r .coefficients ≡ coefficientsIn m
+
+-- what follows the code of a read, a literal or a constant at p
+unfoldable pub leafOf : Tables → ℕ → ℕ → ℕ → Reader Expr
+leafOf t loops code p =
+    if eqb code 0x10 then readOf t loops
+    else if eqb code 0x12 then literalOf t loops
+    else if eqb code 0x13 then constantOf t loops
+    else refuse 9 p
+
+-- the arity of the operator whose code stands at p; operators may nest `left` deep, this one counted
+unfoldable pub arityOf : Tables → ℕ → ℕ → Reader ℕ
+arityOf t zero p = refuse 12 p
+arityOf t (suc left) p = do
+  o ← index (length (t .arities))
+  give (getD (t .arities) o 0)
 
 -- n elements of a list, from `from` on
 unfoldable pub cut : ℕ → ℕ → List ℕ → List ℕ

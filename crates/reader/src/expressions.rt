@@ -1,4 +1,4 @@
-// Expressions, in prefix order. A node and the arguments of an operator are read by turns, at most 12 operators deep.
+// Expressions, in prefix order. A node and the arguments that remain are read by turns, at most 12 operators deep.
 ghost use mathlib.Core.Path.{_≡_};
 ghost use mathlib.Core.List.{[], _∷_};
 ghost use Rattle.reader.specs.Field.{times};
@@ -6,7 +6,7 @@ ghost use Rattle.reader.specs.Syntax.{count, counts};
 ghost use Rattle.reader.specs.Syntax.Exprs.{none as noArgs, more as moreArgs};
 ghost use Rattle.reader.specs.Grammar.{form, readOf, literalOf, constantOf, node as nodeOf, applied, expression};
 ghost use Rattle.reader.specs.Answers.{through, ended, fieldSays, placeSays};
-ghost use Rattle.reader.specs.Entries.{tablesIn};
+ghost use Rattle.reader.specs.Entries.{tablesIn, leafOf, arityOf};
 use crate::fields::Field;
 use crate::fields::Place;
 use crate::fields::byte_at;
@@ -72,70 +72,85 @@ fn constant_end(s: &[u8], at: usize, tables: &[usize; 115], loops: usize) -> Fie
     }
 }
 
-// A node at `at`, in which operators may nest `left` deep: its nodes and its end.
-fn node(s: &[u8], at: usize, tables: &[usize; 115], loops: usize, left: usize) -> Field
-    ensures { λ r. ⌜ fieldSays r ≡ through count (nodeOf (tablesIn (now (tables .entry))) loops (applied (tablesIn (now (tables .entry))) loops left) (now (s .entry)) at) ⌝ }
+// What follows the code of a read, a literal or a constant, which stands at `at`.
+fn leaf_end(
+    s: &[u8],
+    at: usize,
+    code: usize,
+    next: usize,
+    tables: &[usize; 115],
+    loops: usize,
+) -> Field
+    ensures { λ r. ⌜ fieldSays r ≡ through count (leafOf (tablesIn (now (tables .entry))) loops code at (now (s .entry)) next) ⌝ }
 {
-    match byte_at(s, at) {
-        Field::Not(number, place) => Field::Not(number, place),
-        Field::Is(code, next) => match code {
-            0x10 => read_end(s, next, tables, loops),
-            0x11 => operator(s, at, next, tables, loops, left),
-            0x12 => literal_end(s, next, tables, loops),
-            0x13 => constant_end(s, next, tables, loops),
-            _ => Field::Not(9, at),
-        },
+    match code {
+        0x10 => read_end(s, next, tables, loops),
+        0x12 => literal_end(s, next, tables, loops),
+        0x13 => constant_end(s, next, tables, loops),
+        _ => Field::Not(9, at),
     }
 }
 
-// What follows an operator's code, which stands at `code`.
-fn operator(
-    s: &[u8],
-    code: usize,
-    at: usize,
-    tables: &[usize; 115],
-    loops: usize,
-    left: usize,
-) -> Field
-    ensures { λ r. ⌜ fieldSays r ≡ through count (applied (tablesIn (now (tables .entry))) loops left code (now (s .entry)) at) ⌝ }
+// The arity of the operator whose code stands at `code`, and the place behind its number. 12 is asked before that is read.
+fn operator_at(s: &[u8], code: usize, at: usize, tables: &[usize; 115], left: usize) -> Field
+    ensures { λ r. ⌜ fieldSays r ≡ arityOf (tablesIn (now (tables .entry))) left code (now (s .entry)) at ⌝ }
 {
     if left == 0 {
         return Field::Not(12, code);
     }
     match index_at(s, at, operator_count(tables)) {
         Field::Not(number, place) => Field::Not(number, place),
-        Field::Is(o, next) => match args(s, next, tables, loops, left - 1, arity_of(tables, o)) {
-            Field::Not(number, place) => Field::Not(number, place),
-            Field::Is(nodes, end) => Field::Is(nodes + 1, end),
-        },
+        Field::Is(operator, next) => Field::Is(arity_of(tables, operator), next),
     }
 }
 
-// n arguments in a row: the nodes of all, and their end.
-fn args(s: &[u8], at: usize, tables: &[usize; 115], loops: usize, left: usize, n: usize) -> Field
-    ensures { λ r. ⌜ fieldSays r ≡ through counts (times noArgs moreArgs (nodeOf (tablesIn (now (tables .entry))) loops (applied (tablesIn (now (tables .entry))) loops left)) n (now (s .entry)) at) ⌝ }
+// A node at `at`, in which operators may nest `left` deep: its nodes and its end. It and `args` call each other. What falls: an
+// operator takes two bytes and a level of nesting from its arguments, an argument a byte at least from those that remain.
+fn node(s: &[u8], at: usize, tables: &[usize; 115], loops: usize, left: usize) -> Field
+    ensures { λ r. ⌜ fieldSays r ≡ through count (nodeOf (tablesIn (now (tables .entry))) loops (applied (tablesIn (now (tables .entry))) loops left) (now (s .entry)) at) ⌝ }
 {
-    let mut place = at;
-    let mut more = n;
-    let mut nodes: usize = 0;
-    while 0 < more {
-        match node(s, place, tables, loops, left) {
-            Field::Not(number, p) => {
-                return Field::Not(number, p);
+    match byte_at(s, at) {
+        Field::Not(number, place) => Field::Not(number, place),
+        Field::Is(code, next) => {
+            if code != 0x11 {
+                return leaf_end(s, at, code, next, tables, loops);
             }
-            Field::Is(k, next) => {
-                nodes += k;
-                place = next;
-                more -= 1;
+            match operator_at(s, at, next, tables, left) {
+                Field::Not(number, place) => Field::Not(number, place),
+                Field::Is(n, first) => match args(s, first, tables, loops, left - 1, n) {
+                    Field::Not(number, place) => Field::Not(number, place),
+                    Field::Is(nodes, end) => Field::Is(nodes + 1, end),
+                },
             }
         }
     }
-    Field::Is(nodes, place)
 }
 
-// The expression at `at`: the number of its nodes and the place past it.
+// The n arguments that remain: the nodes of all, and their end. The last needs no further call.
+fn args(s: &[u8], at: usize, tables: &[usize; 115], loops: usize, left: usize, n: usize) -> Field
+    ensures { λ r. ⌜ fieldSays r ≡ through counts (times noArgs moreArgs (nodeOf (tablesIn (now (tables .entry))) loops (applied (tablesIn (now (tables .entry))) loops left)) n (now (s .entry)) at) ⌝ }
+{
+    if n == 0 {
+        return Field::Is(0, at);
+    }
+    match node(s, at, tables, loops, left) {
+        Field::Not(number, place) => Field::Not(number, place),
+        Field::Is(nodes, next) => {
+            if n == 1 {
+                return Field::Is(nodes, next);
+            }
+            match args(s, next, tables, loops, left, n - 1) {
+                Field::Not(number, place) => Field::Not(number, place),
+                Field::Is(more, end) => Field::Is(nodes + more, end),
+            }
+        }
+    }
+}
+
+// The expression at `at`: the number of its nodes and the place past it. It is read as a single argument, so that `node` is called
+// from one place.
 pub fn expression_end(s: &[u8], at: usize, tables: &[usize; 115], loops: usize) -> Field
     ensures { λ r. ⌜ fieldSays r ≡ through count (expression (tablesIn (now (tables .entry))) loops (now (s .entry)) at) ⌝ }
 {
-    node(s, at, tables, loops, 12)
+    args(s, at, tables, loops, 12, 1)
 }

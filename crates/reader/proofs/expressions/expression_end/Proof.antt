@@ -1,15 +1,16 @@
-use native.Mathlib.Omega.{arith}
 use Rattle.reader.specs.Grammar.{expression}
+use mathlib.Core.Path.{_∙_}
 use borrow.Author.Needs.{needs}
+use Rattle.reader.proofs.Nodes.{args-one}
 use Rattle.reader.proofs.expressions.expression_end.Statement.{statement}
 use Rattle.reader.proofs.expressions.expression_end.Tie as tie
 
-node-requires : tie.Need-node-requires
-node-requires c κs = search needs
+args-requires : tie.Need-args-requires
+args-requires c κs = search needs
 
 returns : tie.Need-returns
 unfolding expression
-returns c = c .node .ensures
+returns c = c .args2 .ensures ∙ args-one _ _ _
 
 pub expression-end-spec : {M : Type 1} → statement M
-expression-end-spec = tie.close (tie.spec node-requires returns)
+expression-end-spec = tie.close (tie.spec args-requires returns)
