@@ -96,17 +96,29 @@ fn the_store() {
         (1, [9, 19, first, 0, 0, 0, 0]),
         (3, [9, 16, 0u32.wrapping_sub(16), 0, 0, 0, 0]),
         (1, [9, 19, first, 0, 0, 0, 0]),
-        (5, [1, 0, 0, 0, 0, 0, 0]),
-        (5, [0, 1, 0, 0, 0, 0, 0]),
-        (6, [2, 0u32.wrapping_sub(16), 0, 0, 0, 0, 0]),
+        (5, [2, 0u32.wrapping_sub(16), 0, 0, 0, 0, 0]),
+        (5, [1, 0u32.wrapping_sub(16), 0, 0, 0, 0, 0]),
+        (5, [4_097, 0, 0, 0, 0, 0, 0]),
     ]);
     let words = [19, first, 0, 0, 0, 0, 0, 2, 16, 0u32.wrapping_sub(16), 0, 0, 0, 0, 1];
-    let payload = words[9];
-    let line = format!("30 1 1 1 2 2 1 2 1 1 16 {payload} 0 0 0 0 0 0 1 {}", sum(&words));
+    let line = format!("30 1 1 1 2 2 1 2 1 1 1 1 0 1 0 {}", sum(&words));
     assert_eq!(call(30, &[32_768], &steps), line);
-    let full = script(&[(2, [4_096, 19, 0, 0, 0, 0, 0]), (2, [4_097, 19, 0, 0, 0, 0, 0])]);
-    assert_eq!(call(30, &[32_768], &full), "30 0 24 0 0 0");
-    assert_eq!(call(30, &[32_767], &full), "30 0 25 0 25 0");
+    let full = [2, 4].map(|code| [4_096, 4_097].map(|count| (code, [count, 19, 0, 0, 0, 0, 0])));
+    let refused = script(&[full.as_flattened(), &[(5, [1, 0, 0, 0, 0, 0, 0])]].concat());
+    assert_eq!(call(30, &[32_768], &refused), "30 0 24 0 24 4097 24 4097 24 1 0 0");
+    assert_eq!(call(30, &[32_767], &refused), "30 0 25 0 25 4097 25 4097 25 0 25 0");
+}
+
+/// The link of the only term names itself: the walk ends, and a term is stored.
+#[test]
+fn a_chain_that_goes_round() {
+    let first = 0u32.wrapping_sub(19);
+    let stored = [0, 0, 0, 0, 0, 0, 1, 1];
+    let lent =
+        [&stored.map(u32::to_le_bytes).concat()[..], &script(&[(2, [1, 19, first, 0, 0, 0, 0])])];
+    let words = [0, 0, 0, 0, 0, 0, 1, 2, 19, first, 0, 0, 0, 0, 1];
+    let line = format!("30 1 2 2 {}", sum(&words));
+    assert_eq!(call(30, &[32_768, 8, 33_000], &lent.concat()), line);
 }
 
 #[test]

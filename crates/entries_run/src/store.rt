@@ -2,7 +2,6 @@
 use crate::memory::fill;
 use crate::memory::say_sum;
 use crate::numbers::Args;
-use crate::numbers::number_at;
 use crate::numbers::refused;
 use crate::numbers::say;
 use crate::numbers::say_bool;
@@ -11,7 +10,7 @@ use crate::numbers::wide;
 use crate::numbers::word_at;
 use terms::Interned;
 use terms::Node;
-use terms::Read;
+use terms::Start;
 
 // The memory's words and its period come before the script.
 pub(crate) fn called(x: Args, s: &[u8]) {
@@ -60,12 +59,12 @@ fn step(memory: &mut [u32], count: u32, s: &[u8]) -> u32 {
     if code < 5 {
         return adding(memory, code, count, s);
     }
-    reading(memory, code, s);
+    say_start(terms::is_start(memory, word_at(s, 1), word_at(s, 5), word_at(s, 9)));
     count
 }
 
 fn code_of(s: &[u8]) -> usize {
-    if s.len() == 0 { 0 } else { wide(s[0]) % 7 }
+    if s.len() == 0 { 0 } else { wide(s[0]) % 6 }
 }
 
 // With the count so far, or with any.
@@ -99,11 +98,10 @@ fn interned(memory: &mut [u32], count: u32, s: &[u8]) -> u32 {
         }
         Interned::Full => no(24, count),
         Interned::Short => no(25, count),
-        Interned::Broken => no(0, count),
     }
 }
 
-// A question's number, 0 for none; the count stays.
+// A question's number; the count stays.
 fn no(question: usize, count: u32) -> u32 {
     say(0);
     say(question);
@@ -123,34 +121,18 @@ fn put(memory: &mut [u32], count: u32, s: &[u8]) -> u32 {
     kept.count
 }
 
-fn reading(memory: &[u32], code: usize, s: &[u8]) {
-    if code == 5 {
-        say_read(terms::node_at(memory, number_at(s, 1)));
-    } else {
-        say_bool(terms::is_start(memory, word_at(s, 1), word_at(s, 5), word_at(s, 9)));
-    }
-}
-
-fn say_read(read: Read) {
-    match read {
-        Read::Is(n) => {
+fn say_start(start: Start) {
+    match start {
+        Start::Yes => {
             say(1);
-            say_node(n);
+            say(1);
         }
-        Read::Beyond => {
-            no(0, 0);
+        Start::No => {
+            say(1);
+            say(0);
         }
-        Read::Short => {
+        Start::Short => {
             no(25, 0);
         }
     }
-}
-
-fn say_node(n: Node) {
-    say_word(n.kind);
-    say_word(n.payload);
-    say_word(n.a0);
-    say_word(n.a1);
-    say_word(n.a2);
-    say_word(n.a3);
 }

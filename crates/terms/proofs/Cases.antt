@@ -1,23 +1,25 @@
 -- The definitions of the entries, case by case, from plain facts.
-use mathlib.Core.Path.{_≡_, sym, ap, _∙_}
-use mathlib.Core.Bool.{Bool, false}
+use mathlib.Core.Path.{_≡_, refl, sym, ap, _∙_}
+use mathlib.Core.Bool.{Bool, true, false}
 use mathlib.Core.List.{List, [], _∷_}
 use Prim.Native.Nat.{ℕ, _+_, _-_, _≤_, _<_}
+use native.Mathlib.Omega.{arith}
 use lib.ListN.{length}
-use borrow.Author.Tests.{le-leb, lt-leb, lt-ltb, le-ltb}
+use lib.Dec.{ltb, leb}
+use borrow.Author.Tests.{le-leb, lt-leb, lt-ltb, le-ltb, ltb-true}
 use Rattle.terms.specs.declared.Node.{Node}
 use Rattle.terms.specs.declared.Found.{Found}
-use Rattle.terms.specs.declared.Found.the-variants.{Missing}
+use Rattle.terms.specs.declared.Found.the-variants.{Here, Missing}
 use Rattle.terms.specs.declared.Interned.{Interned}
 use Rattle.terms.specs.Mix.{bucketOf}
-use Rattle.terms.specs.Store.{saysOf, keptOf, gives, refused, nothing, kept, Out, out, internOf, byFound, findOf, headAt, linkedIn, nodeOf, nodeAt, eqNode, readOf, startsAt}
+use Rattle.terms.specs.Store.{saysOf, keptOf, keptSays, gives, refused, kept, Out, out, internOf, byFound, findOf, headAt, linkedIn, nodeOf, nodeAt, eqNode, startsAt}
 
 module _ (m : List ℕ) (count : ℕ) (n : Node) where
   pub short : length m < 32768 → out (refused 25) m ≡ internOf m count n
   unfolding internOf
   short h = rw (lt-leb 32768 (length m) h)
 
-  pub many : 32768 ≤ length m → 4096 < count → out nothing m ≡ internOf m count n
+  pub many : 32768 ≤ length m → 4096 < count → out (refused 24) m ≡ internOf m count n
   unfolding internOf
   many a h = rw (le-leb 32768 (length m) a, lt-leb count 4096 h)
 
@@ -40,33 +42,41 @@ module _ (m : List ℕ) (count : ℕ) (n : Node) where
   put-by r a m' e s =
       (ap (λ (x : Interned). keptOf (saysOf x)) (sym s) ∙ ap (λ (o : Out). keptOf (o .answer)) e, ap (λ (o : Out). o .memory) e)
 
-module _ (m : List ℕ) (i : ℕ) where
-  pub read-short : length m < 32768 → refused 25 ≡ readOf m i
-  unfolding readOf
-  read-short h = rw (lt-leb 32768 (length m) h)
+  -- what `put` answers tells a value from a refusal, and names the question
+  pub kept-read : keptSays (keptOf (internOf m count n .answer)) ≡ internOf m count n .answer
+  unfolding internOf
+  kept-read = go (leb 32768 (length m)) refl (leb count 4096) refl
+    where
+      Read : Out → Type 0
+      Read o = keptSays (keptOf (o .answer)) ≡ o .answer
 
-  pub read-beyond : 32768 ≤ length m → 4096 ≤ i → nothing ≡ readOf m i
-  unfolding readOf
-  read-beyond a h = rw (le-leb 32768 (length m) a, le-ltb i 4096 h)
+      added : (room : Bool) → ltb count 4096 ≡ room → Read (byFound m count n Missing)
+      added true q = rw (q, le-leb (count + 1) 4096 (omega (arith, ltb-true count 4096 q)))
+      added false q = rw q
 
-  pub read-node : 32768 ≤ length m → i < 4096 → gives (nodeAt m i) ≡ readOf m i
-  unfolding readOf
-  read-node a h = rw (le-leb 32768 (length m) a, lt-ltb i 4096 h)
+      walked : leb count 4096 ≡ true → (f : Found) → Read (byFound m count n f)
+      walked e (Here r) = rw e
+      walked e Missing = added (ltb count 4096) refl
+
+      go : (long : Bool) → leb 32768 (length m) ≡ long → (few : Bool) → leb count 4096 ≡ few → Read (internOf m count n)
+      go false p few e = rw p
+      go true p false e = rw (p, e)
+      go true p true e = rw (p, e) (walked e (findOf m (headAt m (bucketOf n)) count n))
 
 module _ (m : List ℕ) (r a c : ℕ) where
-  pub start-short : length m < 32768 → false ≡ startsAt m r a c
+  pub start-short : length m < 32768 → refused 25 ≡ startsAt m r a c
   unfolding startsAt
   start-short h = rw (lt-leb 32768 (length m) h)
 
-  pub start-none : 32768 ≤ length m → r ≡ 0 → false ≡ startsAt m r a c
+  pub start-none : 32768 ≤ length m → r ≡ 0 → gives false ≡ startsAt m r a c
   unfolding startsAt
   start-none l h = rw (le-leb 32768 (length m) l, h)
 
-  pub start-beyond : 32768 ≤ length m → 0 < r → 4096 < r → false ≡ startsAt m r a c
+  pub start-beyond : 32768 ≤ length m → 0 < r → 4096 < r → gives false ≡ startsAt m r a c
   unfolding startsAt
   start-beyond l p h = rw (le-leb 32768 (length m) l, lt-ltb 0 r p, lt-leb r 4096 h)
 
-  pub start-by : 32768 ≤ length m → 0 < r → r ≤ 4096 → (i : ℕ) (b : Bool) → i ≡ r - 1 → b ≡ eqNode (nodeAt m i) (nodeOf 16 a (c ∷ [])) → b ≡ startsAt m r a c
+  pub start-by : 32768 ≤ length m → 0 < r → r ≤ 4096 → (i : ℕ) (b s : Bool) → i ≡ r - 1 → b ≡ eqNode (nodeAt m i) (nodeOf 16 a (c ∷ [])) → b ≡ s → gives s ≡ startsAt m r a c
   unfolding startsAt
-  start-by l p h i b e q =
-      q ∙ ap (λ (k : ℕ). eqNode (nodeAt m k) (nodeOf 16 a (c ∷ []))) e ∙ rw (le-leb 32768 (length m) l, lt-ltb 0 r p, le-leb r 4096 h)
+  start-by l p h i b s e q t =
+      ap gives (sym t ∙ q ∙ ap (λ (k : ℕ). eqNode (nodeAt m k) (nodeOf 16 a (c ∷ []))) e) ∙ rw (le-leb 32768 (length m) l, lt-ltb 0 r p, le-leb r 4096 h)

@@ -18,7 +18,7 @@ use Rattle.model.specs.Update.Tree.{cell, operator}
 use Rattle.terms.specs.declared.Node.{Node}
 use Rattle.terms.specs.declared.Kept.{Kept}
 use Rattle.terms.specs.Term.{same}
-use Rattle.terms.specs.Store.{Says, gives, refused, nothing, kept, keptOf, nodeOf, nodeAt, argsOf, eqNode, Out, out, internOf, readOf, startsAt}
+use Rattle.terms.specs.Store.{Says, gives, refused, kept, keptOf, nodeOf, nodeAt, argsOf, eqNode, Out, out, internOf, startsAt}
 use Rattle.terms.specs.Holds.{New, term}
 use Rattle.terms.specs.Stored.{In, tree, Ref, Args, Means, Known, Stored, Outcome, full, fine, Puts, Starts}
 use Rattle.terms.proofs.Same.{same-complete}
@@ -45,18 +45,14 @@ module _ (m : List ℕ) (count : ℕ) (ts : List Tree) (S : Stored m count ts) w
   same-id r s t u g h =
       (λ e. ref-same ts s t u (subst (λ (x : ℕ). Ref ts x t) e g) h, λ e. ref-one ts r s u (S .known .once) (subst (λ (x : Tree). Ref ts r x) e g) h)
 
-  -- the node that is read back is its tree over the earlier ones
-  pub read-back : (i : ℕ) → i < count → (readOf m i ≡ gives (nodeAt m i)) × Means (take i ts) (nodeAt m i) (tree ts i)
-  unfolding readOf
-  read-back i l = (
-    rw (le-leb 32768 (length m) (S .held .long), lt-ltb i 4096 (omega (arith, S .held .room))),
-    subst (λ (x : Node). Means (take i ts) x (tree ts i)) (sym (S .held .words i l)) (S .known .means i (omega (arith, counted))),
-  )
+  -- the node at an id is its tree over the earlier ones
+  pub read-back : (i : ℕ) → i < count → Means (take i ts) (nodeAt m i) (tree ts i)
+  read-back i l = subst (λ (x : Node). Means (take i ts) x (tree ts i)) (sym (S .held .words i l)) (S .known .means i (omega (arith, counted)))
 
   -- each argument of an operator is earlier than the operator
   pub earlier : (i : ℕ) → i < count → (o : ℕ) (us : Trees) → tree ts i ≡ operator o us → Args (take i ts) (argsOf (nodeAt m i)) 0 us
   unfolding Means
-  earlier i l o us e = subst (λ (t : Tree). Means (take i ts) (nodeAt m i) t) e (read-back i l .1) .2
+  earlier i l o us e = subst (λ (t : Tree). Means (take i ts) (nodeAt m i) t) e (read-back i l) .2
 
 pub ref-earlier : (ts : List Tree) (i r : ℕ) (t : Tree) → Ref (take i ts) r t → r ≤ i
 ref-earlier ts i r t h = omega (arith, h .within, length-take i ts, min-le-left i (length ts))
@@ -134,7 +130,6 @@ module _ (m : List ℕ) (count : ℕ) (ts : List Tree) (S : Stored m count ts) (
           number : Says Kept → ℕ
           number (gives x) = 0
           number (refused x) = 1
-          number nothing = 1
 
       go : ((i : ℕ) × (i < length ts) × (tree ts i ≡ t)) ⊎ (In t ts → ⊥) → (count ≡ 4096) × (In t ts → ⊥)
       go (inl p) = absurd (never (kept count (p .0 + 1)) (ap (λ (o : Out). o .answer) (finds (p .0) (omega (arith, p .1, long)) (p .2))))
@@ -202,28 +197,48 @@ puts m count kind payload ids r m' e f ts t S T =
     (interns m count ts S (nodeOf kind payload ids) t T)
 
 -- what `is_start` promises, for trees
-pub starts : (m : List ℕ) (r a c : ℕ) (b : Bool) → b ≡ startsAt m r a c → Starts m r a c b
-unfolding Starts startsAt Means
-starts m r a c b q count ts t S R =
-    q
-    ∙ rw (le-leb 32768 (length m) (S .held .long), lt-ltb 0 r (R .some), le-leb r 4096 (omega (arith, R .within, long, S .held .room)))
-    (go (eqNode (nodeAt m i) n) refl)
-  where
-    i : ℕ
-    i = r - 1
+module _ (m : List ℕ) (r a c : ℕ) (b : Bool) where
+  -- memory that holds trees is long enough
+  pub starts-short : refused 25 ≡ startsAt m r a c → Starts m r a c b
+  unfolding Starts startsAt
+  starts-short q count ts t S R = let z : _≡_ {A = Says Bool} (refused 25) (gives _) = rw (le-leb 32768 (length m) (S .held .long)) at q in absurd (apart z)
+    where
+      apart : {x : Bool} → refused 25 ≡ gives x → ⊥
+      apart e = let z : _≡_ {A = ℕ} 0 1 = ap number e in omega arith
+        where
+          number : Says Bool → ℕ
+          number (gives x) = 1
+          number (refused x) = 0
 
-    n : Node
-    n = nodeOf 16 a (c ∷ [])
+  pub starts : gives b ≡ startsAt m r a c → Starts m r a c b
+  unfolding Starts startsAt Means
+  starts q count ts t S R = value q ∙ go (eqNode (nodeAt m i) n) refl
+    where
+      i : ℕ
+      i = r - 1
 
-    long : count ≡ length ts
-    long = counted m count ts S
+      n : Node
+      n = nodeOf 16 a (c ∷ [])
 
-    is : Means ts (nodeAt m i) t
-    is =
-        let l : i < length ts = omega (arith, R .some, R .within) in
-        let k : i < count = omega (arith, long) in
-        subst₂ (λ (x : Node) (y : Tree). Means ts x y) (sym (S .held .words i k)) (R .is) (means-all (S .nodes) ts (S .known) i l)
+      long : count ≡ length ts
+      long = counted m count ts S
 
-    go : (x : Bool) → eqNode (nodeAt m i) n ≡ x → x ≡ same t (cell a c)
-    go true p = sym (same-complete t (cell a c) (means-same ts n t (cell a c) (subst (λ (y : Node). Means ts y t) (eqNode-true (nodeAt m i) n p) is) refl))
-    go false p = sym (different t (cell a c) (λ f. true≢false (sym (eqNode-same (nodeAt m i) n (subst (λ (y : Tree). Means ts (nodeAt m i) y) f is)) ∙ p)))
+      answered : Says Bool → Bool
+      answered (gives x) = x
+      answered (refused x) = false
+
+      there : startsAt m r a c ≡ gives (eqNode (nodeAt m i) n)
+      there = rw (le-leb 32768 (length m) (S .held .long), lt-ltb 0 r (R .some), le-leb r 4096 (omega (arith, R .within, long, S .held .room)))
+
+      value : gives b ≡ startsAt m r a c → b ≡ eqNode (nodeAt m i) n
+      value e = ap answered (e ∙ there)
+
+      is : Means ts (nodeAt m i) t
+      is =
+          let l : i < length ts = omega (arith, R .some, R .within) in
+          let k : i < count = omega (arith, long) in
+          subst₂ (λ (x : Node) (y : Tree). Means ts x y) (sym (S .held .words i k)) (R .is) (means-all (S .nodes) ts (S .known) i l)
+
+      go : (x : Bool) → eqNode (nodeAt m i) n ≡ x → x ≡ same t (cell a c)
+      go true p = sym (same-complete t (cell a c) (means-same ts n t (cell a c) (subst (λ (y : Node). Means ts y t) (eqNode-true (nodeAt m i) n p) is) refl))
+      go false p = sym (different t (cell a c) (λ f. true≢false (sym (eqNode-same (nodeAt m i) n (subst (λ (y : Tree). Means ts (nodeAt m i) y) f is)) ∙ p)))

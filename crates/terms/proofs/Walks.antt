@@ -1,7 +1,7 @@
 -- What one look at a chain says: at its end, above the top, and at an id.
 use mathlib.Core.Path.{_≡_, refl, sym, ap, _∙_}
 use mathlib.Core.Logic.{⊎-elim}
-use mathlib.Core.Bool.{Bool, true, false}
+use mathlib.Core.Bool.{Bool, true, false, false≢true}
 use mathlib.Core.List.{List}
 use Prim.Native.Nat.{ℕ, zero, suc, _-_, _≤_, _<_}
 use native.Mathlib.Nat.{le-of-suc-le-suc, not-suc-le-zero, eq-or-lt-of-le}
@@ -10,7 +10,7 @@ use lib.Dec.{eqb·zero-suc}
 use borrow.Author.Tests.{eq-eqb, ne-eqb}
 use Rattle.model.specs.Test.{if_then_else_}
 use Rattle.terms.specs.declared.Node.{Node}
-use Rattle.terms.specs.declared.Found.the-variants.{Here, Missing, Broken}
+use Rattle.terms.specs.declared.Found.the-variants.{Here, Missing}
 use Rattle.terms.specs.Chain.{look}
 use Rattle.terms.specs.Store.{findOf, nodeAt, linkAt, eqNode}
 
@@ -20,9 +20,9 @@ module _ (test : ℕ → Bool) (link : ℕ → ℕ) where
   look-end zero = refl
   look-end (suc k) = rw (eqb·zero-suc k) (look-end k)
 
-  pub look-over : (k at : ℕ) → k < at → look test link k at ≡ Broken
+  pub look-over : (k at : ℕ) → k < at → look test link k at ≡ Missing
   unfolding look
-  look-over zero at h = rw (ne-eqb at 0 (omega arith))
+  look-over zero at h = refl
   look-over (suc k) at h = rw (ne-eqb at (suc k) (omega arith)) (look-over k at (omega arith))
 
   pub look-past : (k at : ℕ) → at ≤ k → look test link (suc k) at ≡ look test link k at
@@ -52,15 +52,29 @@ module _ (m : List ℕ) (n : Node) where
   unfolding findOf
   find-end k = look-end _ _ k
 
-  pub find-over : (k at : ℕ) → k < at → findOf m at k n ≡ Broken
+  pub find-over : (k at : ℕ) → k < at → findOf m at k n ≡ Missing
   unfolding findOf
   find-over k at h = look-over _ _ k at h
 
-  pub find-hit : (k at : ℕ) → 0 < at → at ≤ k → eqNode (nodeAt m (at - 1)) n ≡ true → findOf m at k n ≡ Here at
-  unfolding findOf
-  find-hit k at p h e = look-on (λ i. eqNode (nodeAt m i) n) (λ i. linkAt m i) k at p h ∙ rw e
+  -- i is the id of the cursor, and b says whether n stands there
+  module _ (k at i : ℕ) (b : Bool) (p : 0 < at) (h : at ≤ k) (e : i ≡ at - 1) (q : b ≡ eqNode (nodeAt m i) n) where
+    tested : (t : Bool) → b ≡ t → eqNode (nodeAt m (at - 1)) n ≡ t
+    tested t r = ap (λ (j : ℕ). eqNode (nodeAt m j) n) (sym e) ∙ sym q ∙ r
 
-  pub find-next : (k at : ℕ) → 0 < at → at ≤ k → eqNode (nodeAt m (at - 1)) n ≡ false
-      → findOf m at k n ≡ findOf m (linkAt m (at - 1)) (at - 1) n
-  unfolding findOf
-  find-next k at p h e = look-on (λ i. eqNode (nodeAt m i) n) (λ i. linkAt m i) k at p h ∙ rw e
+    -- a test that fails where b is false
+    pub find-hit : (b ≡ false → false ≡ true) → findOf m at k n ≡ Here at
+    unfolding findOf
+    find-hit r = look-on (λ j. eqNode (nodeAt m j) n) (λ j. linkAt m j) k at p h ∙ rw (tested true (go b refl))
+      where
+        go : (t : Bool) → b ≡ t → b ≡ true
+        go true s = s
+        go false s = absurd (false≢true (r s))
+
+    -- and one that fails where b is true
+    pub find-next : (b ≡ true → false ≡ true) → findOf m at k n ≡ findOf m (linkAt m i) (at - 1) n
+    unfolding findOf
+    find-next r = look-on (λ j. eqNode (nodeAt m j) n) (λ j. linkAt m j) k at p h ∙ rw (tested false (go b refl), e)
+      where
+        go : (t : Bool) → b ≡ t → b ≡ false
+        go true s = absurd (false≢true (r s))
+        go false s = s

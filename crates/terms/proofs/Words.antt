@@ -7,7 +7,6 @@ use native.Mathlib.Nat.{not-suc-le-zero, add-zero}
 use native.Mathlib.Omega.{arith}
 use lib.ListN.{length, getD, set, length-set}
 use lib.Seq.{getD-set-same, getD-set-other, sets, length-sets}
-use lib.Dec.{eqb}
 use borrow.Author.Tests.{eq-eqb, eqb-true}
 use Rattle.terms.specs.declared.Node.{Node}
 use Rattle.terms.specs.Store.{nodeAt, linkAt, headAt, argsOf, eqNode, written, linkedIn}
@@ -124,6 +123,12 @@ module _ (m : List ℕ) (i b start : ℕ) (n : Node) where
   unfolding linkedIn
   head-new h = getD-set-same on (b * 8 + 7) (i + 1) 0 (simp length-set (omega (arith, written-length m i n)))
 
+-- the two stores behind the node's, as code makes them: id i at place p, and q the head
+pub linked-by : (m w : List ℕ) (i count b start : ℕ) (n : Node) (p q v : ℕ) → i ≡ count → w ≡ written m i n → p ≡ count * 8 + 6 → q ≡ b * 8 + 7 → v ≡ count + 1
+    → set (set w p start) q v ≡ linkedIn m count b start n
+unfolding linkedIn
+linked-by m w i count b start n p q v e f g h k = rw (f, e, g, h, k)
+
 -- ---- the comparison
 
 pub eqNode-true : (x y : Node) → eqNode x y ≡ true → x ≡ y
@@ -157,7 +162,12 @@ eqNode-other x y h = go (eqNode x y) refl
     go true e = absurd (h (eqNode-true x y e))
     go false e = e
 
--- the last of six comparisons decides
-pub last-word : (x y : Node) → x .kind ≡ y .kind → x .payload ≡ y .payload → x .a0 ≡ y .a0 → x .a1 ≡ y .a1 → x .a2 ≡ y .a2 → eqb (x .a3) (y .a3) ≡ eqNode x y
-unfolding eqNode
-last-word x y e1 e2 e3 e4 e5 = simp (eq-eqb _ _ e1, eq-eqb _ _ e2, eq-eqb _ _ e3, eq-eqb _ _ e4, eq-eqb _ _ e5)
+-- one part that differs decides
+pub apart-by : (part : Node → ℕ) (x y : Node) → (part x ≡ part y → ⊥) → false ≡ eqNode x y
+apart-by part x y h = sym (eqNode-other x y (λ e. h (ap part e)))
+
+pub alike-by : (m : List ℕ) (i : ℕ) (n : Node) → getD m (i * 8) 0 ≡ n .kind → getD m (i * 8 + 1) 0 ≡ n .payload
+    → getD m (i * 8 + 2) 0 ≡ n .a0 → getD m (i * 8 + 3) 0 ≡ n .a1 → getD m (i * 8 + 4) 0 ≡ n .a2 → getD m (i * 8 + 5) 0 ≡ n .a3 → true ≡ eqNode (nodeAt m i) n
+unfolding nodeAt
+alike-by m i n e1 e2 e3 e4 e5 e6 =
+    sym (eqNode-same (nodeAt m i) n (λ k. record { kind = e1 k; payload = e2 k; a0 = e3 k; a1 = e4 k; a2 = e5 k; a3 = e6 k }))

@@ -1,6 +1,6 @@
 -- What each entry of the store does, on lists, for every input. The layout is that of docs/LAYOUT.md, "Terms".
 use Prim.Native.Nat.{ℕ, _+_, _-_, _*_}
-use mathlib.Core.Bool.{Bool, _&&_}
+use mathlib.Core.Bool.{Bool, true, false, _&&_}
 use mathlib.Core.List.{List, [], _∷_}
 use lib.ListN.{length, getD, set}
 use lib.Seq.{sets}
@@ -10,41 +10,42 @@ use Rattle.model.specs.Memory.{termWords}
 use Rattle.terms.specs.declared.Node.{Node}
 use Rattle.terms.specs.declared.Kept.{Kept}
 use Rattle.terms.specs.declared.Found.{Found}
-use Rattle.terms.specs.declared.Found.the-variants.{Here, Missing, Broken}
+use Rattle.terms.specs.declared.Found.the-variants.{Here, Missing}
 use Rattle.terms.specs.declared.Interned.{Interned}
-use Rattle.terms.specs.declared.Interned.the-variants.{At, Full, Short as ShortMemory, Broken as NoStore}
-use Rattle.terms.specs.declared.Read.{Read}
-use Rattle.terms.specs.declared.Read.the-variants.{Is, Beyond, Short as ShortSlice}
+use Rattle.terms.specs.declared.Interned.the-variants.{At, Full, Short as ShortMemory}
+use Rattle.terms.specs.declared.Start.{Start}
+use Rattle.terms.specs.declared.Start.the-variants.{Yes, No, Short as ShortSlice}
 use Rattle.terms.specs.Chain.{look}
 use Rattle.terms.specs.Mix.{bucketOf}
 
 -- ---- answers
 
--- a value; a "no" to the question of paper 01 with this number; or that memory holds no such thing
+-- a value, or a "no" to the question of paper 01 with this number
 pub data Says (A : Type 0) : Type 0 where
   gives : A → Says A
   refused : ℕ → Says A
-  nothing : Says A
 
 abbrev pub saysOf : Interned → Says Kept
 saysOf (At k) = gives k
 saysOf Full = refused 24
 saysOf ShortMemory = refused 25
-saysOf NoStore = nothing
 
-abbrev pub readSays : Read → Says Node
-readSays (Is n) = gives n
-readSays ShortSlice = refused 25
-readSays Beyond = nothing
+abbrev pub startSays : Start → Says Bool
+startSays Yes = gives true
+startSays No = gives false
+startSays ShortSlice = refused 25
 
 abbrev pub kept : ℕ → ℕ → Kept
 kept count id = record { count = count; id = id }
 
--- an answer as a count: above 4,096 where nothing is stored
+-- the same in two numbers: of a refusal the count is above 4,096, and the question stands for the id
 abbrev pub keptOf : Says Kept → Kept
 keptOf (gives k) = k
-keptOf (refused k) = kept 4097 0
-keptOf nothing = kept 4097 0
+keptOf (refused question) = kept 4097 question
+
+-- and read back
+abbrev pub keptSays : Kept → Says Kept
+keptSays k = if leb (k .count) 4096 then gives k else refused (k .id)
 
 -- ---- nodes
 
@@ -114,21 +115,18 @@ abbrev pub byFound : List ℕ → ℕ → Node → Found → Out
 byFound m count n (Here r) = out (gives (kept count r)) m
 byFound m count n Missing =
     if ltb count 4096 then out (gives (kept (count + 1) (count + 1))) (appended m count n) else out (refused 24) m
-byFound m count n Broken = out nothing m
 
 unfoldable pub internOf : List ℕ → ℕ → Node → Out
 internOf m count n =
     if leb termWords (length m)
-    then if leb count 4096 then byFound m count n (findOf m (headAt m (bucketOf n)) count n) else out nothing m
+    then if leb count 4096 then byFound m count n (findOf m (headAt m (bucketOf n)) count n) else out (refused 24) m
     else out (refused 25) m
 
--- ---- reading
+-- ---- is_start
 
-unfoldable pub readOf : List ℕ → ℕ → Says Node
-readOf m i = if leb termWords (length m) then if ltb i 4096 then gives (nodeAt m i) else nothing else refused 25
-
--- the term with id plus 1 = r is the starting cell c of array a
-unfoldable pub startsAt : List ℕ → ℕ → ℕ → ℕ → Bool
+-- whether the term with id plus 1 = r is the starting cell c of array a
+unfoldable pub startsAt : List ℕ → ℕ → ℕ → ℕ → Says Bool
 startsAt m r a c =
-    leb termWords (length m)
-    && (ltb 0 r && (leb r 4096 && eqNode (nodeAt m (r - 1)) (nodeOf 16 a (c ∷ []))))
+    if leb termWords (length m)
+    then gives (ltb 0 r && (leb r 4096 && eqNode (nodeAt m (r - 1)) (nodeOf 16 a (c ∷ []))))
+    else refused 25

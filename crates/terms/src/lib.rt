@@ -3,7 +3,7 @@ ghost use mathlib.Core.Path.{_≡_};
 ghost use Prim.Native.Nat.{_+_, _*_, _<_, _≤_};
 ghost use lib.ListN.{length};
 ghost use Rattle.terms.specs.Mix.{eightfoldOf, stepOf, bucketOf};
-ghost use Rattle.terms.specs.Store.{nodeOf, nodeAt, eqNode, written, linkedIn, findOf, saysOf, readSays, out, internOf, keptOf, readOf, startsAt};
+ghost use Rattle.terms.specs.Store.{nodeOf, nodeAt, eqNode, written, linkedIn, findOf, saysOf, startSays, out, internOf, keptOf, startsAt};
 
 // The words of a term: kind, payload and four arguments, each an id plus 1, or 0 where there is none.
 pub struct Node {
@@ -15,7 +15,8 @@ pub struct Node {
     pub a3: u32,
 }
 
-// The number of terms after a call, and the id plus 1.
+// The number of terms after a call, and the id plus 1. As `put` answers it, a number above 4,096 is a refusal, and the id is then
+// the number of the question.
 pub struct Kept {
     pub count: u32,
     pub id: u32,
@@ -27,14 +28,11 @@ pub enum Interned {
     Full,
     // Too little memory: question 25.
     Short,
-    // Memory that holds no store of so many terms.
-    Broken,
 }
 
-pub enum Read {
-    Is(Node),
-    // No store has an id that large.
-    Beyond,
+pub enum Start {
+    Yes,
+    No,
     // Too little memory: question 25.
     Short,
 }
@@ -43,7 +41,6 @@ pub enum Read {
 enum Found {
     Here(u32),
     Missing,
-    Broken,
 }
 
 fn wide(x: u32) -> usize
@@ -102,7 +99,10 @@ fn is_node(memory: &[u32], i: usize, node: Node) -> bool
     if memory[b + 4] != node.a2 {
         return false;
     }
-    memory[b + 5] == node.a3
+    if memory[b + 5] != node.a3 {
+        return false;
+    }
+    true
 }
 
 fn write(memory: &mut [u32], i: usize, node: Node)
@@ -129,7 +129,7 @@ fn append(memory: &mut [u32], count: u32, b: usize, start: u32, node: Node)
     memory[b * 8 + 7] = count + 1;
 }
 
-// Links go down, so what is still to be met lies below `top`: any memory ends the walk.
+// Links of a store go down, so what is still to be met lies below `top`; a cursor that does not ends the walk.
 fn find(memory: &[u32], start: u32, count: u32, node: Node) -> Found
     requires { ⌜ (count ≤ 4096) × (32768 ≤ length (now memory)) ⌝ }
     ensures { λ r. ⌜ r ≡ findOf (now (memory .entry)) start count node ⌝ }
@@ -138,7 +138,7 @@ fn find(memory: &[u32], start: u32, count: u32, node: Node) -> Found
     let mut top = count;
     while at != 0 {
         if top < at {
-            return Found::Broken;
+            return Found::Missing;
         }
         let i = at - 1;
         let k = wide(i);
@@ -160,7 +160,7 @@ pub fn intern(memory: &mut [u32], count: u32, node: Node) -> Interned
         return Interned::Short;
     }
     if count > 4096 {
-        return Interned::Broken;
+        return Interned::Full;
     }
     let b = bucket(node);
     let start = memory[b * 8 + 7];
@@ -180,11 +180,10 @@ pub fn intern(memory: &mut [u32], count: u32, node: Node) -> Interned
                 id: count + 1,
             })
         }
-        Found::Broken => Interned::Broken,
     }
 }
 
-// `intern` for callers that go by the count alone: above 4,096, the term is not stored.
+// `intern` for callers that hand its answer on: two numbers and no enum.
 pub fn put(memory: &mut [u32], count: u32, kind: u32, payload: u32, ids: [u32; 4]) -> Kept
     ensures result { λ r. ⌜ r ≡ keptOf (internOf (now (memory .entry)) count (nodeOf kind payload ids) .answer) ⌝ }
     ensures memory { λ _. ⌜ now (memory .exit) ≡ internOf (now (memory .entry)) count (nodeOf kind payload ids) .memory ⌝ }
@@ -200,45 +199,29 @@ pub fn put(memory: &mut [u32], count: u32, kind: u32, payload: u32, ids: [u32; 4
     let interned = intern(memory, count, node);
     match interned {
         Interned::At(k) => k,
-        Interned::Full => Kept { count: 4097, id: 0 },
-        Interned::Short => Kept { count: 4097, id: 0 },
-        Interned::Broken => Kept { count: 4097, id: 0 },
+        Interned::Full => Kept {
+            count: 4097,
+            id: 24,
+        },
+        Interned::Short => Kept {
+            count: 4097,
+            id: 25,
+        },
     }
 }
 
-// The node that stands at an id.
-pub fn node_at(memory: &[u32], id: usize) -> Read
-    ensures { λ r. ⌜ readSays r ≡ readOf (now (memory .entry)) id ⌝ }
+// Whether the term with id plus 1 = r is the starting cell c of array a. No store has a term 0 or one above 4,096.
+pub fn is_start(memory: &[u32], r: u32, a: u32, c: u32) -> Start
+    ensures { λ s. ⌜ startSays s ≡ startsAt (now (memory .entry)) r a c ⌝ }
 {
     if memory.len() < 32768 {
-        return Read::Short;
-    }
-    if id >= 4096 {
-        return Read::Beyond;
-    }
-    let b = id * 8;
-    Read::Is(Node {
-        kind: memory[b],
-        payload: memory[b + 1],
-        a0: memory[b + 2],
-        a1: memory[b + 3],
-        a2: memory[b + 4],
-        a3: memory[b + 5],
-    })
-}
-
-// Whether the term with id plus 1 = r is the starting cell c of array a.
-pub fn is_start(memory: &[u32], r: u32, a: u32, c: u32) -> bool
-    ensures { λ b. ⌜ b ≡ startsAt (now (memory .entry)) r a c ⌝ }
-{
-    if memory.len() < 32768 {
-        return false;
+        return Start::Short;
     }
     if r == 0 {
-        return false;
+        return Start::No;
     }
     if r > 4096 {
-        return false;
+        return Start::No;
     }
     let node = Node {
         kind: 16,
@@ -248,5 +231,6 @@ pub fn is_start(memory: &[u32], r: u32, a: u32, c: u32) -> bool
         a2: 0,
         a3: 0,
     };
-    is_node(memory, wide(r - 1), node)
+    let alike = is_node(memory, wide(r - 1), node);
+    if alike { Start::Yes } else { Start::No }
 }

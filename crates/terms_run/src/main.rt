@@ -2,7 +2,7 @@
 use libc::STDOUT_FILENO;
 use terms::Interned;
 use terms::Node;
-use terms::Read;
+use terms::Start;
 
 // The inverse of 129 to the fifth, modulo 2^32: names that go up by it from 0 - 19 have the mixes 0, 1, 2 and so on.
 const CROWDED: u32 = 1537457537;
@@ -42,9 +42,6 @@ fn tell(interned: Interned) {
         }
         Interned::Short => {
             say(b"refused", 25);
-        }
-        Interned::Broken => {
-            say(b"no store", 0);
         }
     }
 }
@@ -88,26 +85,26 @@ fn full(memory: &mut [u32], first: u32, step: u32, next: u32) {
     say(b"still found", found(memory, count, first, step));
 }
 
-fn show(read: Read) {
-    match read {
-        Read::Is(n) => {
-            say(b"kind", n.kind);
-            say(b"second argument", n.a1);
+fn ask_start(memory: &[u32], r: u32, a: u32, c: u32) {
+    match terms::is_start(memory, r, a, c) {
+        Start::Yes => {
+            say(b"starts", r);
         }
-        Read::Beyond => {
-            say(b"no such id", 0);
+        Start::No => {
+            say(b"starts not", r);
         }
-        Read::Short => {
+        Start::Short => {
             say(b"refused", 25);
         }
     }
 }
 
-fn ask_start(memory: &[u32], r: u32, a: u32, c: u32) {
-    if terms::is_start(memory, r, a, c) {
-        say(b"starts", r);
+fn ask_put(memory: &mut [u32], count: u32, name: u32) {
+    let kept = terms::put(memory, count, 19, name, [0; 4]);
+    if kept.count > 4096 {
+        say(b"refused", kept.id);
     } else {
-        say(b"starts not", r);
+        say(b"id", kept.id);
     }
 }
 
@@ -134,16 +131,21 @@ fn small(memory: &mut [u32]) {
     say(b"again", again.id);
     ask_start(memory, 2, 3, 8);
     ask_start(memory, 2, 3, 7);
-    show(terms::node_at(memory, 2));
-    show(terms::node_at(memory, 4096));
+}
+
+fn short(memory: &mut [u32]) {
+    ask(memory, 0, 0);
+    ask_put(memory, 0, 0);
+    ask_start(memory, 1, 0, 0);
 }
 
 // Too little memory; more terms than a store holds; chains that go round.
 fn main() {
     let mut few = [0u32; 8];
     let mut memory = [9u32; 32768];
-    ask(&mut few, 0, 0);
+    short(&mut few);
     ask(&mut memory, 4097, 0);
+    ask_put(&mut memory, 4097, 0);
     ask(&mut memory, 20, 0);
     full(&mut memory, 0, 1, 4096);
     full(&mut memory, CROWDED_FIRST, CROWDED, 4096);

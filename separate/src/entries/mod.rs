@@ -11,12 +11,12 @@ use std::fmt::{Display, Write};
 
 use crate::line::line_of;
 use crate::read::{read_program, read_tables};
-use crate::reply::{Refusal, Reply, Side};
+use crate::reply::{Question, Refusal, Reply, Side};
 use crate::{compare_input, compare_programs};
 use fields::Outcome;
 use grammar::Grammar;
 use numbers::{flat, narrowed, Row, Tables, ROW};
-use store::{Answer, Node, Store};
+use store::{Node, Store};
 
 /// The entry's number and its six arguments.
 const HEAD: usize = 1 + 6 * 8;
@@ -203,7 +203,7 @@ impl Line {
     /// The count after one call.
     fn step(&mut self, store: &mut Store, count: u32, step: &[u8]) -> u32 {
         let [given, node @ ..]: [u32; 7] = std::array::from_fn(|k| word_at(step, 1 + 4 * k));
-        match step[0] % 7 {
+        match step[0] % 6 {
             0 => {
                 store.memory.fill(0);
                 return 0;
@@ -212,49 +212,37 @@ impl Line {
             2 => return self.intern(store, given, node),
             3 => return self.put(store, count, node),
             4 => return self.put(store, given, node),
-            5 => self.node(store.read(number_at(step, 1))),
-            _ => self.say(u8::from(store.starts(given, node[0], node[1]))),
+            _ => self.start(store.starts(given, node[0], node[1])),
         }
         count
     }
 
     fn intern(&mut self, store: &mut Store, count: u32, node: Node) -> u32 {
         match store.intern(count, node) {
-            Answer::Gives((after, id)) => {
+            Ok((after, id)) => {
                 self.say_all([1, after, id]);
                 after
             }
-            answer => {
-                self.no(answer);
+            Err(question) => {
+                self.say_all([0, question as u8]);
                 count
             }
         }
     }
 
-    /// A count above 4,096 says that nothing is stored.
+    /// A count above 4,096 says that the number behind it is a question's.
     fn put(&mut self, store: &mut Store, count: u32, node: Node) -> u32 {
-        let (after, id) = match store.intern(count, node) {
-            Answer::Gives(kept) => kept,
-            _ => (4_097, 0),
-        };
+        let refused = |question: Question| (4_097, question as u32);
+        let (after, id) = store.intern(count, node).unwrap_or_else(refused);
         self.say_all([after, id]);
         after
     }
 
-    fn node(&mut self, answer: Answer<Node>) {
+    fn start(&mut self, answer: Result<bool, Question>) {
         match answer {
-            Answer::Gives(node) => {
-                self.say(1);
-                self.say_all(node);
-            }
-            answer => self.no(answer),
+            Ok(is) => self.say_all([1, u8::from(is)]),
+            Err(question) => self.say_all([0, question as u8]),
         }
-    }
-
-    /// The question's number, 0 where memory holds no such thing.
-    fn no<T>(&mut self, answer: Answer<T>) {
-        self.say(0);
-        self.say(if let Answer::Refused(question) = answer { question as u8 } else { 0 });
     }
 
     fn compare(&mut self, entry: u8, arguments: [usize; 6], s: &[u8]) -> Result<(), Unfit> {

@@ -15,19 +15,6 @@ const RECORD: usize = 8;
 /// The kind of a starting cell.
 const START: u32 = 16;
 
-pub enum Answer<T> {
-    Gives(T),
-    Refused(Question),
-    /// Memory holds no such thing.
-    Nothing,
-}
-
-enum Found {
-    Here(u32),
-    Missing,
-    Broken,
-}
-
 pub struct Store {
     pub memory: Vec<u32>,
 }
@@ -48,64 +35,50 @@ impl Store {
     }
 
     /// Goes through the numbers below the count from the top. A cursor that
-    /// is not met on the way down names no term of this store.
-    fn find(&self, head: u32, count: u32, node: &Node) -> Found {
+    /// is not met on the way down ends the chain.
+    fn find(&self, head: u32, count: u32, node: &Node) -> Option<u32> {
         let mut cursor = head;
         for id in (1..=count).rev() {
             let number = id as usize - 1;
             if cursor == id {
                 if self.is_node(number, node) {
-                    return Found::Here(id);
+                    return Some(id);
                 }
                 cursor = self.record(number)[LINK];
             }
         }
-        if cursor == 0 {
-            Found::Missing
-        } else {
-            Found::Broken
-        }
+        None
     }
 
     /// The count after the call, and the term's number plus 1.
-    pub fn intern(&mut self, count: u32, node: Node) -> Answer<(u32, u32)> {
+    pub fn intern(&mut self, count: u32, node: Node) -> Result<(u32, u32), Question> {
         if self.memory.len() < TERM_WORDS {
-            return Answer::Refused(Question::Memory);
+            return Err(Question::Memory);
         }
         if count > TERMS as u32 {
-            return Answer::Nothing;
+            return Err(Question::Terms);
         }
         let bucket = bucket(&node);
         let head = self.record(bucket)[BUCKET_HEAD];
-        match self.find(head, count, &node) {
-            Found::Here(id) => Answer::Gives((count, id)),
-            Found::Broken => Answer::Nothing,
-            Found::Missing if count == TERMS as u32 => Answer::Refused(Question::Terms),
-            Found::Missing => {
-                let at = RECORD * count as usize;
-                self.memory[at..at + LINK].copy_from_slice(&node);
-                self.memory[at + LINK] = head;
-                self.memory[RECORD * bucket + BUCKET_HEAD] = count + 1;
-                Answer::Gives((count + 1, count + 1))
-            }
+        if let Some(id) = self.find(head, count, &node) {
+            return Ok((count, id));
         }
-    }
-
-    pub fn read(&self, number: usize) -> Answer<Node> {
-        if self.memory.len() < TERM_WORDS {
-            return Answer::Refused(Question::Memory);
+        if count == TERMS as u32 {
+            return Err(Question::Terms);
         }
-        if number >= TERMS {
-            return Answer::Nothing;
-        }
-        let node = self.record(number).first_chunk();
-        Answer::Gives(*node.expect("a record begins with its node"))
+        let at = RECORD * count as usize;
+        self.memory[at..at + LINK].copy_from_slice(&node);
+        self.memory[at + LINK] = head;
+        self.memory[RECORD * bucket + BUCKET_HEAD] = count + 1;
+        Ok((count + 1, count + 1))
     }
 
     /// Is the term with this number plus 1 the starting content of the cell?
-    pub fn starts(&self, id: u32, array: u32, cell: u32) -> bool {
-        self.memory.len() >= TERM_WORDS
-            && (1..=TERMS as u32).contains(&id)
-            && self.is_node(id as usize - 1, &[START, array, cell, 0, 0, 0])
+    pub fn starts(&self, id: u32, array: u32, cell: u32) -> Result<bool, Question> {
+        if self.memory.len() < TERM_WORDS {
+            return Err(Question::Memory);
+        }
+        let start = [START, array, cell, 0, 0, 0];
+        Ok((1..=TERMS as u32).contains(&id) && self.is_node(id as usize - 1, &start))
     }
 }

@@ -323,15 +323,10 @@ impl Records {
     }
 
     fn step(&mut self) -> Vec<u8> {
-        let code = self.random.weighted(&[4, 35, 4, 25, 3, 14, 15]) as u8;
+        let code = self.random.weighted(&[4, 35, 6, 25, 5, 25]) as u8;
         let count = *self.random.pick(&[0, 1, 2, 5, 4_095, 4_096, 4_097, u32::MAX]);
         let numbers = match code {
             5 => {
-                let number =
-                    if self.random.chance(60) { self.random.below(12) } else { self.number(4_096) };
-                [number as u32, ((number as u64) >> 32) as u32, 0, 0, 0, 0, 0]
-            }
-            6 => {
                 let low = self.random.below(8) as u32;
                 let id = *self.random.pick(&[low, low, low, count, 4_096]);
                 let [array, cell] = self.cell();

@@ -1,7 +1,7 @@
 use borrow.Author.Needs.{needs}
 use native.Mathlib.Omega.{arith}
 use lib.ListN.{length-set}
-use Rattle.terms.specs.Store.{linkedIn}
+use Rattle.terms.proofs.Words.{linked-by}
 use borrow.Author.Needs.{needs}
 use Rattle.terms.proofs.append.Statement.{statement}
 use Rattle.terms.proofs.append.Tie as tie
@@ -43,8 +43,7 @@ same-length : tie.Need-same-length
 same-length c = search needs
 
 returns : tie.Need-returns
-unfolding linkedIn
-returns c = rw (c .before .before .write .ensures, c .before .before .before .before .wide .ensures)
+returns c = linked-by _ _ _ _ _ _ _ _ _ _ (c .before .before .before .before .wide .ensures) (c .before .before .write .ensures) (omega arith) (omega arith) (omega arith)
 
 pub append-spec : {M : Type 1} → statement M
 append-spec =

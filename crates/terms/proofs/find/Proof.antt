@@ -17,7 +17,7 @@ loop-holds : tie.Need-loop-holds Inv-loop μ-loop
 loop-holds c = (search needs, refl)
 
 returns : tie.Need-returns Inv-loop μ-loop
-returns c = sym (find-over _ _ (c .before .before .loop .top) (c .before .before .loop .at) (c .if1 .taken)) ∙ c .before .before .loop .inv .1
+returns c = sym (find-over _ _ (c .before .before .loop .top) (c .before .before .loop .at) (omega arith)) ∙ c .before .before .loop .inv .1
 
 sub-i : tie.Need-sub-i Inv-loop μ-loop
 sub-i c = omega arith
@@ -31,8 +31,8 @@ is-node-requires c κs = omega arith
 returns-2 : tie.Need-returns-2 Inv-loop μ-loop
 returns-2 c =
     let l = c .before .before .before .before .before .loop in
-    let e : c .before .before .wide .result ≡ l .at - 1 = c .before .before .wide .ensures in
-    sym (find-hit (c .before .before .before .before .before .before .before .args .memory .now) _ (l .top) (l .at) (omega arith) (omega arith) (rw e at (sym (c .before .is-node .ensures) ∙ c .if2 .taken))) ∙ l .inv .1
+    let h = c .if2 .taken in
+    sym (find-hit _ _ (l .top) (l .at) _ _ (omega arith) (omega arith) (c .before .before .wide .ensures) (c .before .is-node .ensures) (λ e. cc)) ∙ l .inv .1
 
 mul-at : tie.Need-mul-at Inv-loop μ-loop
 mul-at c = omega arith
@@ -52,8 +52,8 @@ loop-less c = omega arith
 loop-again : tie.Need-loop-again Inv-loop μ-loop
 loop-again c =
     let l = c .before .before .before .before .before .before .loop in
-    let e : c .before .before .before .wide .result ≡ l .at - 1 = c .before .before .before .wide .ensures in
-    (omega arith, rw e (sym (find-next (c .before .before .before .before .before .before .before .before .args .memory .now) _ (l .top) (l .at) (omega arith) (omega arith) (rw e at (sym (c .before .before .is-node .ensures) ∙ c .before .if2 .left)))) ∙ l .inv .1)
+    let h = c .before .if2 .left in
+    (omega arith, sym (find-next _ _ (l .top) (l .at) _ _ (omega arith) (omega arith) (c .before .before .before .wide .ensures) (c .before .before .is-node .ensures) (λ e. cc)) ∙ l .inv .1)
 
 returns-3 : tie.Need-returns-3 Inv-loop μ-loop
 returns-3 c = sym (rw (c .loop-test .left) (find-end _ _ (c .before .loop .top))) ∙ c .before .loop .inv .1

@@ -9,12 +9,12 @@ use Rattle.terms.proofs.intern.Tie as tie
 returns : tie.Need-returns
 returns c =
     let s = c .before .before .args in
-    short (s .memory .now) (s .count) (s .node) (c .if1 .taken)
+    short (s .memory .now) (s .count) (s .node) (omega arith)
 
 returns-2 : tie.Need-returns-2
 returns-2 c =
     let s = c .before .before .before .args in
-    many (s .memory .now) (s .count) (s .node) (c .before .if1 .left) (c .if2 .taken)
+    many (s .memory .now) (s .count) (s .node) (omega arith) (omega arith)
 
 bucket-requires : tie.Need-bucket-requires
 bucket-requires c κs = search needs
@@ -48,7 +48,7 @@ returns-3 c =
     let s = c .before .before .before .before .before .before .before .before .before .before .args in
     let b = c .before .before .before .before .before .before .bucket in
     sym (is-full (s .memory .now) (s .count) (s .node) (omega arith))
-    ∙ by-found (s .memory .now) (s .count) (s .node) (c .before .before .before .before .before .before .before .before .if1 .left) (c .before .before .before .before .before .before .before .if2 .left) (b .result) _ _ (b .ensures .0) (c .before .before .before .find .ensures) (c .before .enum-told .given .1)
+    ∙ by-found (s .memory .now) (s .count) (s .node) (omega arith) (omega arith) (b .result) _ _ (b .ensures .0) (c .before .before .before .find .ensures) (c .before .enum-told .given .1)
 
 append-requires : tie.Need-append-requires
 append-requires c κs = search needs
@@ -59,9 +59,6 @@ add-t22 c = search needs
 add-t23 : tie.Need-add-t23
 add-t23 c = search needs
 
-enum-told-2 : tie.Need-enum-told-2
-enum-told-2 c = search needs
-
 same-length-2 : tie.Need-same-length-2
 same-length-2 c = search needs
 
@@ -69,7 +66,7 @@ returns-4 : tie.Need-returns-4
 returns-4 c =
     let s = c .before .before .before .before .before .before .before .before .before .before .args in
     let b = c .before .before .before .before .before .before .bucket in
-    by-found (s .memory .now) (s .count) (s .node) (c .before .before .before .before .before .before .before .before .if1 .left) (c .before .before .before .before .before .before .before .if2 .left) (b .result) _ _ (b .ensures .0) (c .before .before .before .find .ensures) (c .before .found .given .1)
+    by-found (s .memory .now) (s .count) (s .node) (omega arith) (omega arith) (b .result) _ _ (b .ensures .0) (c .before .before .before .find .ensures) (c .before .found .given .1)
 
 same-length-3 : tie.Need-same-length-3
 same-length-3 c = search needs
@@ -79,16 +76,7 @@ returns-5 c =
     let s = c .before .before .before .before .before .before .before .before .before .before .before .before .before .before .args in
     let b = c .before .before .before .before .before .before .before .before .before .before .bucket in
     sym (is-stored (s .memory .now) (s .count) (s .node) (b .result) (c .before .before .append .last .0) (omega arith) (b .ensures .0) (c .before .before .append .ensures))
-    ∙ by-found (s .memory .now) (s .count) (s .node) (c .before .before .before .before .before .before .before .before .before .before .before .before .if1 .left) (c .before .before .before .before .before .before .before .before .before .before .before .if2 .left) (b .result) _ _ (b .ensures .0) (c .before .before .before .before .before .before .before .find .ensures) (c .before .before .before .before .before .enum-told .given .1)
-
-same-length-4 : tie.Need-same-length-4
-same-length-4 c = search needs
-
-returns-6 : tie.Need-returns-6
-returns-6 c =
-    let s = c .before .before .before .before .before .before .before .before .before .args in
-    let b = c .before .before .before .before .before .bucket in
-    by-found (s .memory .now) (s .count) (s .node) (c .before .before .before .before .before .before .before .if1 .left) (c .before .before .before .before .before .before .if2 .left) (b .result) _ _ (b .ensures .0) (c .before .before .find .ensures) (c .enum-told2 .given .1)
+    ∙ by-found (s .memory .now) (s .count) (s .node) (omega arith) (omega arith) (b .result) _ _ (b .ensures .0) (c .before .before .before .before .before .before .before .find .ensures) (c .before .before .before .before .before .enum-told .given .1)
 
 pub intern-spec : {M : Type 1} → statement M
 intern-spec =
@@ -109,10 +97,7 @@ intern-spec =
     append-requires
     add-t22
     add-t23
-    enum-told-2
     same-length-2
     returns-4
     same-length-3
-    returns-5
-    same-length-4
-    returns-6)
+    returns-5)

@@ -1,7 +1,7 @@
 use borrow.Author.Needs.{needs}
-use borrow.Author.Tests.{eq-eqb, ne-eqb}
-use Rattle.terms.specs.Store.{eqNode, nodeAt}
-use Rattle.terms.proofs.Words.{last-word}
+use native.Mathlib.Omega.{arith}
+use Rattle.terms.specs.Store.{nodeAt}
+use Rattle.terms.proofs.Words.{apart-by, alike-by}
 use borrow.Author.Needs.{needs}
 use Rattle.terms.proofs.is_node.Statement.{statement}
 use Rattle.terms.proofs.is_node.Tie as tie
@@ -16,8 +16,8 @@ shared-slice-read-if1 : tie.Need-shared-slice-read-if1
 shared-slice-read-if1 c = search needs
 
 returns : tie.Need-returns
-unfolding eqNode nodeAt
-returns c = simp (ne-eqb _ _ (c .if1 .taken))
+unfolding nodeAt
+returns c = apart-by (λ n. n .kind) _ _ (λ e. omega arith)
 
 add-if2 : tie.Need-add-if2
 add-if2 c = search needs
@@ -29,8 +29,8 @@ shared-slice-read-if2 : tie.Need-shared-slice-read-if2
 shared-slice-read-if2 c = search needs
 
 returns-2 : tie.Need-returns-2
-unfolding eqNode nodeAt
-returns-2 c = simp (eq-eqb _ _ (c .before .before .before .if1 .left), ne-eqb _ _ (c .if2 .taken))
+unfolding nodeAt
+returns-2 c = apart-by (λ n. n .payload) _ _ (λ e. omega arith)
 
 add-if3 : tie.Need-add-if3
 add-if3 c = search needs
@@ -42,8 +42,8 @@ shared-slice-read-if3 : tie.Need-shared-slice-read-if3
 shared-slice-read-if3 c = search needs
 
 returns-3 : tie.Need-returns-3
-unfolding eqNode nodeAt
-returns-3 c = simp (eq-eqb _ _ (c .before .before .before .before .before .before .if1 .left), eq-eqb _ _ (c .before .before .before .if2 .left), ne-eqb _ _ (c .if3 .taken))
+unfolding nodeAt
+returns-3 c = apart-by (λ n. n .a0) _ _ (λ e. omega arith)
 
 add-if4 : tie.Need-add-if4
 add-if4 c = search needs
@@ -55,8 +55,8 @@ shared-slice-read-if4 : tie.Need-shared-slice-read-if4
 shared-slice-read-if4 c = search needs
 
 returns-4 : tie.Need-returns-4
-unfolding eqNode nodeAt
-returns-4 c = simp (eq-eqb _ _ (c .before .before .before .before .before .before .before .before .before .if1 .left), eq-eqb _ _ (c .before .before .before .before .before .before .if2 .left), eq-eqb _ _ (c .before .before .before .if3 .left), ne-eqb _ _ (c .if4 .taken))
+unfolding nodeAt
+returns-4 c = apart-by (λ n. n .a1) _ _ (λ e. omega arith)
 
 add-if5 : tie.Need-add-if5
 add-if5 c = search needs
@@ -68,23 +68,24 @@ shared-slice-read-if5 : tie.Need-shared-slice-read-if5
 shared-slice-read-if5 c = search needs
 
 returns-5 : tie.Need-returns-5
-unfolding eqNode nodeAt
-returns-5 c = simp (eq-eqb _ _ (c .before .before .before .before .before .before .before .before .before .before .before .before .if1 .left), eq-eqb _ _ (c .before .before .before .before .before .before .before .before .before .if2 .left), eq-eqb _ _ (c .before .before .before .before .before .before .if3 .left), eq-eqb _ _ (c .before .before .before .if4 .left), ne-eqb _ _ (c .if5 .taken))
+unfolding nodeAt
+returns-5 c = apart-by (λ n. n .a2) _ _ (λ e. omega arith)
 
-add-result : tie.Need-add-result
-add-result c = search needs
+add-if6 : tie.Need-add-if6
+add-if6 c = search needs
 
-mul-result : tie.Need-mul-result
-mul-result c = search needs
+mul-if6 : tie.Need-mul-if6
+mul-if6 c = search needs
 
-shared-slice-read-result : tie.Need-shared-slice-read-result
-shared-slice-read-result c = search needs
+shared-slice-read-if6 : tie.Need-shared-slice-read-if6
+shared-slice-read-if6 c = search needs
 
 returns-6 : tie.Need-returns-6
 unfolding nodeAt
-returns-6 c =
-    last-word (nodeAt (c .before .before .before .before .before .before .before .before .before .before .before .before .before .before .before .before .before .args .memory .now) (c .before .before .before .before .before .before .before .before .before .before .before .before .before .before .before .before .before .args .i)) (c .before .before .before .before .before .before .before .before .before .before .before .before .before .before .before .before .before .args .node)
-    (c .before .before .before .before .before .before .before .before .before .before .before .before .before .before .if1 .left) (c .before .before .before .before .before .before .before .before .before .before .before .if2 .left) (c .before .before .before .before .before .before .before .before .if3 .left) (c .before .before .before .before .before .if4 .left) (c .before .before .if5 .left)
+returns-6 c = apart-by (λ n. n .a3) _ _ (λ e. omega arith)
+
+returns-7 : tie.Need-returns-7
+returns-7 c = alike-by _ _ _ (omega arith) (omega arith) (omega arith) (omega arith) (omega arith) (omega arith)
 
 pub is-node-spec : {M : Type 1} → statement M
 is-node-spec =
@@ -110,7 +111,8 @@ is-node-spec =
     mul-if5
     shared-slice-read-if5
     returns-5
-    add-result
-    mul-result
-    shared-slice-read-result
-    returns-6)
+    add-if6
+    mul-if6
+    shared-slice-read-if6
+    returns-6
+    returns-7)

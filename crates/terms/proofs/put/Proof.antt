@@ -28,9 +28,6 @@ enum-told c = search needs
 enum-told-2 : tie.Need-enum-told-2
 enum-told-2 c = search needs
 
-enum-told-3 : tie.Need-enum-told-3
-enum-told-3 c = search needs
-
 same-length : tie.Need-same-length
 same-length c = search needs
 
@@ -49,12 +46,6 @@ same-length-3 c = search needs
 returns-3 : tie.Need-returns-3
 returns-3 c = put-by _ _ _ _ _ _ (c .before .before .before .before .intern .ensures) (c .enum-told2 .given .1)
 
-same-length-4 : tie.Need-same-length-4
-same-length-4 c = search needs
-
-returns-4 : tie.Need-returns-4
-returns-4 c = put-by _ _ _ _ _ _ (c .before .before .before .before .intern .ensures) (c .enum-told3 .given .1)
-
 pub put-spec : {M : Type 1} → statement M
 put-spec =
     tie.close
@@ -67,12 +58,9 @@ put-spec =
     enum-known-interned
     enum-told
     enum-told-2
-    enum-told-3
     same-length
     returns
     same-length-2
     returns-2
     same-length-3
-    returns-3
-    same-length-4
-    returns-4)
+    returns-3)
