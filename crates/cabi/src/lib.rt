@@ -109,11 +109,14 @@ pub extern "C" fn tengmua_compare_programs(
     cells: &mut [u32],
     terms: &mut [u32],
 ) -> Numbers
-    ensures { λ r. ⌜ r ≡ numbersOf (entryReply (enoughLent (now («left_list» .entry)) (now («right_list» .entry)) (now (cells .entry)) (now (terms .entry))) (programsReply mask (now (left .entry)) (now (right .entry)))) ⌝ }
-    ensures { λ _. ⌜ now («left_list» .exit) ≡ workLeft (enoughLent (now («left_list» .entry)) (now («right_list» .entry)) (now (cells .entry)) (now (terms .entry))) (now («left_list» .entry)) ⌝ }
-    ensures { λ _. ⌜ now («right_list» .exit) ≡ workLeft (enoughLent (now («left_list» .entry)) (now («right_list» .entry)) (now (cells .entry)) (now (terms .entry))) (now («right_list» .entry)) ⌝ }
-    ensures { λ _. ⌜ now (cells .exit) ≡ workLeft (enoughLent (now («left_list» .entry)) (now («right_list» .entry)) (now (cells .entry)) (now (terms .entry))) (now (cells .entry)) ⌝ }
-    ensures { λ _. ⌜ now (terms .exit) ≡ workLeft (enoughLent (now («left_list» .entry)) (now («right_list» .entry)) (now (cells .entry)) (now (terms .entry))) (now (terms .entry)) ⌝ }
+    ensures { λ r. ⌜ (
+        let long = enoughLent (now («left_list» .entry)) (now («right_list» .entry)) (now (cells .entry)) (now (terms .entry)) in
+        (r ≡ numbersOf (entryReply long (programsReply mask (now (left .entry)) (now (right .entry)))))
+        × (now («left_list» .exit) ≡ workLeft long (now («left_list» .entry)))
+        × (now («right_list» .exit) ≡ workLeft long (now («right_list» .entry)))
+        × (now (cells .exit) ≡ workLeft long (now (cells .entry)))
+        × (now (terms .exit) ≡ workLeft long (now (terms .entry)))
+        ) ⌝ }
 {
     let reply = compare_programs_masked(left, right, mask, left_list, right_list, cells, terms);
     reply_numbers(reply)
@@ -128,9 +131,12 @@ pub extern "C" fn tengmua_compare_lists(
     cells: &mut [u32],
     terms: &mut [u32],
 ) -> Numbers
-    ensures { λ r. ⌜ r ≡ numbersOf (wordsReply mask (now (left .entry)) (now (right .entry)) (length (now (cells .entry))) (length (now (terms .entry)))) ⌝ }
-    ensures { λ _. ⌜ now (cells .exit) ≡ workLeft (enoughLent (now (left .entry)) (now (right .entry)) (now (cells .entry)) (now (terms .entry))) (now (cells .entry)) ⌝ }
-    ensures { λ _. ⌜ now (terms .exit) ≡ workLeft (enoughLent (now (left .entry)) (now (right .entry)) (now (cells .entry)) (now (terms .entry))) (now (terms .entry)) ⌝ }
+    ensures { λ r. ⌜ (
+        let long = enoughLent (now (left .entry)) (now (right .entry)) (now (cells .entry)) (now (terms .entry)) in
+        (r ≡ numbersOf (wordsReply mask (now (left .entry)) (now (right .entry)) (length (now (cells .entry))) (length (now (terms .entry)))))
+        × (now (cells .exit) ≡ workLeft long (now (cells .entry)))
+        × (now (terms .exit) ≡ workLeft long (now (terms .entry)))
+        ) ⌝ }
 {
     let reply = compare_lists(left, right, mask, cells, terms);
     reply_numbers(reply)

@@ -88,9 +88,12 @@ pub fn compare_lists(
     cells: &mut [u32],
     terms: &mut [u32],
 ) -> Reply
-    ensures { λ r. ⌜ replySays r ≡ wordsReply mask (now (left .entry)) (now (right .entry)) (length (now (cells .entry))) (length (now (terms .entry))) ⌝ }
-    ensures { λ _. ⌜ now (cells .exit) ≡ workLeft (enoughLent (now (left .entry)) (now (right .entry)) (now (cells .entry)) (now (terms .entry))) (now (cells .entry)) ⌝ }
-    ensures { λ _. ⌜ now (terms .exit) ≡ workLeft (enoughLent (now (left .entry)) (now (right .entry)) (now (cells .entry)) (now (terms .entry))) (now (terms .entry)) ⌝ }
+    ensures { λ r. ⌜ (
+        let long = enoughLent (now (left .entry)) (now (right .entry)) (now (cells .entry)) (now (terms .entry)) in
+        (replySays r ≡ wordsReply mask (now (left .entry)) (now (right .entry)) (length (now (cells .entry))) (length (now (terms .entry))))
+        × (now (cells .exit) ≡ workLeft long (now (cells .entry)))
+        × (now (terms .exit) ≡ workLeft long (now (terms .entry)))
+        ) ⌝ }
 {
     if !long_enough(left.len(), right.len(), cells.len(), terms.len()) {
         return Reply::Refused(Side::Both, 25, 0);

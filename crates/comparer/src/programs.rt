@@ -69,11 +69,14 @@ pub fn compare_programs_masked(
     cells: &mut [u32],
     terms: &mut [u32],
 ) -> Reply
-    ensures { λ r. ⌜ replySays r ≡ entryReply (enoughLent (now («left_list» .entry)) (now («right_list» .entry)) (now (cells .entry)) (now (terms .entry))) (programsReply mask (now (left .entry)) (now (right .entry))) ⌝ }
-    ensures { λ _. ⌜ now («left_list» .exit) ≡ workLeft (enoughLent (now («left_list» .entry)) (now («right_list» .entry)) (now (cells .entry)) (now (terms .entry))) (now («left_list» .entry)) ⌝ }
-    ensures { λ _. ⌜ now («right_list» .exit) ≡ workLeft (enoughLent (now («left_list» .entry)) (now («right_list» .entry)) (now (cells .entry)) (now (terms .entry))) (now («right_list» .entry)) ⌝ }
-    ensures { λ _. ⌜ now (cells .exit) ≡ workLeft (enoughLent (now («left_list» .entry)) (now («right_list» .entry)) (now (cells .entry)) (now (terms .entry))) (now (cells .entry)) ⌝ }
-    ensures { λ _. ⌜ now (terms .exit) ≡ workLeft (enoughLent (now («left_list» .entry)) (now («right_list» .entry)) (now (cells .entry)) (now (terms .entry))) (now (terms .entry)) ⌝ }
+    ensures { λ r. ⌜ (
+        let long = enoughLent (now («left_list» .entry)) (now («right_list» .entry)) (now (cells .entry)) (now (terms .entry)) in
+        (replySays r ≡ entryReply long (programsReply mask (now (left .entry)) (now (right .entry))))
+        × (now («left_list» .exit) ≡ workLeft long (now («left_list» .entry)))
+        × (now («right_list» .exit) ≡ workLeft long (now («right_list» .entry)))
+        × (now (cells .exit) ≡ workLeft long (now (cells .entry)))
+        × (now (terms .exit) ≡ workLeft long (now (terms .entry)))
+        ) ⌝ }
 {
     if !long_enough(left_list.len(), right_list.len(), cells.len(), terms.len()) {
         return Reply::Refused(Side::Both, 25, 0);
@@ -92,11 +95,14 @@ pub fn compare_programs(
     cells: &mut [u32],
     terms: &mut [u32],
 ) -> Reply
-    ensures { λ r. ⌜ replySays r ≡ entryReply (enoughLent (now («left_list» .entry)) (now («right_list» .entry)) (now (cells .entry)) (now (terms .entry))) (programsReply allBits (now (left .entry)) (now (right .entry))) ⌝ }
-    ensures { λ _. ⌜ now («left_list» .exit) ≡ workLeft (enoughLent (now («left_list» .entry)) (now («right_list» .entry)) (now (cells .entry)) (now (terms .entry))) (now («left_list» .entry)) ⌝ }
-    ensures { λ _. ⌜ now («right_list» .exit) ≡ workLeft (enoughLent (now («left_list» .entry)) (now («right_list» .entry)) (now (cells .entry)) (now (terms .entry))) (now («right_list» .entry)) ⌝ }
-    ensures { λ _. ⌜ now (cells .exit) ≡ workLeft (enoughLent (now («left_list» .entry)) (now («right_list» .entry)) (now (cells .entry)) (now (terms .entry))) (now (cells .entry)) ⌝ }
-    ensures { λ _. ⌜ now (terms .exit) ≡ workLeft (enoughLent (now («left_list» .entry)) (now («right_list» .entry)) (now (cells .entry)) (now (terms .entry))) (now (terms .entry)) ⌝ }
+    ensures { λ r. ⌜ (
+        let long = enoughLent (now («left_list» .entry)) (now («right_list» .entry)) (now (cells .entry)) (now (terms .entry)) in
+        (replySays r ≡ entryReply long (programsReply allBits (now (left .entry)) (now (right .entry))))
+        × (now («left_list» .exit) ≡ workLeft long (now («left_list» .entry)))
+        × (now («right_list» .exit) ≡ workLeft long (now («right_list» .entry)))
+        × (now (cells .exit) ≡ workLeft long (now (cells .entry)))
+        × (now (terms .exit) ≡ workLeft long (now (terms .entry)))
+        ) ⌝ }
 {
     compare_programs_masked(left, right, 65535, left_list, right_list, cells, terms)
 }
@@ -159,11 +165,14 @@ pub fn compare_input(
     cells: &mut [u32],
     terms: &mut [u32],
 ) -> Reply
-    ensures { λ r. ⌜ replySays r ≡ entryReply (enoughLent (now («left_list» .entry)) (now («right_list» .entry)) (now (cells .entry)) (now (terms .entry))) (inputReply (now (input .entry))) ⌝ }
-    ensures { λ _. ⌜ now («left_list» .exit) ≡ workLeft (enoughLent (now («left_list» .entry)) (now («right_list» .entry)) (now (cells .entry)) (now (terms .entry))) (now («left_list» .entry)) ⌝ }
-    ensures { λ _. ⌜ now («right_list» .exit) ≡ workLeft (enoughLent (now («left_list» .entry)) (now («right_list» .entry)) (now (cells .entry)) (now (terms .entry))) (now («right_list» .entry)) ⌝ }
-    ensures { λ _. ⌜ now (cells .exit) ≡ workLeft (enoughLent (now («left_list» .entry)) (now («right_list» .entry)) (now (cells .entry)) (now (terms .entry))) (now (cells .entry)) ⌝ }
-    ensures { λ _. ⌜ now (terms .exit) ≡ workLeft (enoughLent (now («left_list» .entry)) (now («right_list» .entry)) (now (cells .entry)) (now (terms .entry))) (now (terms .entry)) ⌝ }
+    ensures { λ r. ⌜ (
+        let long = enoughLent (now («left_list» .entry)) (now («right_list» .entry)) (now (cells .entry)) (now (terms .entry)) in
+        (replySays r ≡ entryReply long (inputReply (now (input .entry))))
+        × (now («left_list» .exit) ≡ workLeft long (now («left_list» .entry)))
+        × (now («right_list» .exit) ≡ workLeft long (now («right_list» .entry)))
+        × (now (cells .exit) ≡ workLeft long (now (cells .entry)))
+        × (now (terms .exit) ≡ workLeft long (now (terms .entry)))
+        ) ⌝ }
 {
     if !long_enough(left_list.len(), right_list.len(), cells.len(), terms.len()) {
         return Reply::Refused(Side::Both, 25, 0);

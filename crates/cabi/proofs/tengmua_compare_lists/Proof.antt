@@ -17,7 +17,7 @@ same-length-2 : tie.Need-same-length-2
 same-length-2 c = search needs
 
 returns : tie.Need-returns
-returns c = (c .reply-numbers .ensures ∙ ap numbersOf (c .before .before .before .before .before .compare-lists .ensures .0), c .before .before .before .before .before .compare-lists .ensures .1)
+returns c = let e = c .before .before .before .before .before .compare-lists .ensures in (c .reply-numbers .ensures ∙ ap numbersOf (e .0), e .1, e .2)
 
 pub tengmua-compare-lists-spec : {M : Type 1} → statement M
 tengmua-compare-lists-spec =

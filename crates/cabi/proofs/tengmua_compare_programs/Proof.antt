@@ -23,7 +23,7 @@ same-length-4 : tie.Need-same-length-4
 same-length-4 c = search needs
 
 returns : tie.Need-returns
-returns c = (c .reply-numbers .ensures ∙ ap numbersOf (c .before .before .before .before .before .before .before .before .before .compare-programs-masked .ensures .0), c .before .before .before .before .before .before .before .before .before .compare-programs-masked .ensures .1)
+returns c = let e = c .before .before .before .before .before .before .before .before .before .compare-programs-masked .ensures in (c .reply-numbers .ensures ∙ ap numbersOf (e .0), e .1, e .2, e .3, e .4)
 
 pub tengmua-compare-programs-spec : {M : Type 1} → statement M
 tengmua-compare-programs-spec =

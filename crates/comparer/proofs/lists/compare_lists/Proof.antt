@@ -11,7 +11,9 @@ long-enough-requires : tie.Need-long-enough-requires
 long-enough-requires c κs = search needs
 
 returns : tie.Need-returns
-returns c = (words-short (c .before .before .before .before .before .before .args .mask) (c .before .before .before .before .before .before .args .left .now) (c .before .before .before .before .before .before .args .right .now) (length (c .before .before .before .before .before .before .args .cells .now)) (length (c .before .before .before .before .before .before .args .terms .now)) (sym (c .before .long-enough .ensures) ∙ not-true _ (c .if1 .taken)), (work-kept _ _ (sym (c .before .long-enough .ensures) ∙ not-true _ (c .if1 .taken)), work-kept _ _ (sym (c .before .long-enough .ensures) ∙ not-true _ (c .if1 .taken))))
+returns c =
+    let s = c .before .before .before .before .before .before .args in
+    (words-short (s .mask) (s .left .now) (s .right .now) (length (s .cells .now)) (length (s .terms .now)) (sym (c .before .long-enough .ensures) ∙ not-true _ (c .if1 .taken)), work-kept _ _ (sym (c .before .long-enough .ensures) ∙ not-true _ (c .if1 .taken)), work-kept _ _ (sym (c .before .long-enough .ensures) ∙ not-true _ (c .if1 .taken)))
 
 checked-requires : tie.Need-checked-requires
 checked-requires c κs = (sym (c .before .before .before .long-enough .ensures) ∙ not-false _ (c .before .before .if1 .left))
@@ -29,7 +31,11 @@ same-length-2 : tie.Need-same-length-2
 same-length-2 c = search needs
 
 returns-2 : tie.Need-returns-2
-returns-2 c = (words-long (c .before .before .before .before .before .before .before .before .before .before .before .before .before .before .before .before .before .before .before .before .before .args .mask) (c .before .before .before .before .before .before .before .before .before .before .before .before .before .before .before .before .before .before .before .before .before .args .left .now) (c .before .before .before .before .before .before .before .before .before .before .before .before .before .before .before .before .before .before .before .before .before .args .right .now) (length (c .before .before .before .before .before .before .before .before .before .before .before .before .before .before .before .before .before .before .before .before .before .args .cells .now)) (length (c .before .before .before .before .before .before .before .before .before .before .before .before .before .before .before .before .before .before .before .before .before .args .terms .now)) _ (sym (c .before .before .before .before .before .before .before .before .before .before .before .before .before .before .before .before .long-enough .ensures) ∙ not-false _ (c .before .before .before .before .before .before .before .before .before .before .before .before .before .before .before .if1 .left)) (c .before .before .before .before .before .before .before .before .before .before .before .before .checked .ensures), (work-cleared (enough (length (c .before .before .before .before .before .before .before .before .before .before .before .before .before .before .before .before .before .before .before .before .before .args .left .now)) (length (c .before .before .before .before .before .before .before .before .before .before .before .before .before .before .before .before .before .before .before .before .before .args .right .now)) (length (c .before .before .before .before .before .before .before .before .before .before .before .before .before .before .before .before .before .before .before .before .before .args .cells .now)) (length (c .before .before .before .before .before .before .before .before .before .before .before .before .before .before .before .before .before .before .before .before .before .args .terms .now))) (c .before .before .before .before .before .before .before .before .before .before .before .before .before .before .before .before .before .before .before .before .before .args .cells .now) (c .before .before .before .before .before .before .before .before .before .before .before .before .checked .last .1 .1 .1 .0) (c .before .before .before .before .before .before .clear .last .0) (sym (c .before .before .before .before .before .before .before .before .before .before .before .before .before .before .before .before .long-enough .ensures) ∙ not-false _ (c .before .before .before .before .before .before .before .before .before .before .before .before .before .before .before .if1 .left)) (c .before .before .before .before .before .before .before .before .before .before .before .before .checked .kept .1 .1 .1 .0) (c .before .before .before .before .before .before .clear .ensures), work-cleared (enough (length (c .before .before .before .before .before .before .before .before .before .before .before .before .before .before .before .before .before .before .before .before .before .args .left .now)) (length (c .before .before .before .before .before .before .before .before .before .before .before .before .before .before .before .before .before .before .before .before .before .args .right .now)) (length (c .before .before .before .before .before .before .before .before .before .before .before .before .before .before .before .before .before .before .before .before .before .args .cells .now)) (length (c .before .before .before .before .before .before .before .before .before .before .before .before .before .before .before .before .before .before .before .before .before .args .terms .now))) (c .before .before .before .before .before .before .before .before .before .before .before .before .before .before .before .before .before .before .before .before .before .args .terms .now) (c .before .before .before .before .before .before .before .before .before .before .before .before .checked .last .1 .1 .1 .1 .0) (c .before .before .clear2 .last .0) (sym (c .before .before .before .before .before .before .before .before .before .before .before .before .before .before .before .before .long-enough .ensures) ∙ not-false _ (c .before .before .before .before .before .before .before .before .before .before .before .before .before .before .before .if1 .left)) (c .before .before .before .before .before .before .before .before .before .before .before .before .checked .kept .1 .1 .1 .1 .0) (c .before .before .clear2 .ensures)))
+returns-2 c =
+    let s = c .before .before .before .before .before .before .before .before .before .before .before .before .before .before .before .before .before .before .before .before .before .args in
+    let long = enough (length (s .left .now)) (length (s .right .now)) (length (s .cells .now)) (length (s .terms .now)) in
+    let d = c .before .before .before .before .before .before .before .before .before .before .before .before .checked in
+    (words-long (s .mask) (s .left .now) (s .right .now) (length (s .cells .now)) (length (s .terms .now)) _ (sym (c .before .before .before .before .before .before .before .before .before .before .before .before .before .before .before .before .long-enough .ensures) ∙ not-false _ (c .before .before .before .before .before .before .before .before .before .before .before .before .before .before .before .if1 .left)) (d .ensures), work-cleared long (s .cells .now) (d .last .1 .1 .1 .0) (c .before .before .before .before .before .before .clear .last .0) (sym (c .before .before .before .before .before .before .before .before .before .before .before .before .before .before .before .before .long-enough .ensures) ∙ not-false _ (c .before .before .before .before .before .before .before .before .before .before .before .before .before .before .before .if1 .left)) (d .kept .1 .1 .1 .0) (c .before .before .before .before .before .before .clear .ensures), work-cleared long (s .terms .now) (d .last .1 .1 .1 .1 .0) (c .before .before .clear2 .last .0) (sym (c .before .before .before .before .before .before .before .before .before .before .before .before .before .before .before .before .long-enough .ensures) ∙ not-false _ (c .before .before .before .before .before .before .before .before .before .before .before .before .before .before .before .if1 .left)) (d .kept .1 .1 .1 .1 .0) (c .before .before .clear2 .ensures))
 
 pub compare-lists-spec : {M : Type 1} → statement M
 compare-lists-spec =
