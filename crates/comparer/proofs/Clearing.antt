@@ -4,9 +4,10 @@ use Prim.Native.Nat.{ℕ, zero, suc, _+_, _-_, _*_, _≤_, _<_}
 use native.Mathlib.Omega.{arith}
 use mathlib.Core.List.{List, [], _∷_, _++_, append-assoc}
 use mathlib.Core.Bool.{true}
-use lib.ListN.{length, getD, set, drop, replicate, length-append}
+use lib.ListN.{length, getD, set, replicate, length-append, length-replicate, List·getD-eq-default}
+use lib.Seq.{getD-append-add}
 use borrow.Author.Fill.{fill-more}
-use Rattle.model.specs.Memory.{listWords, cleared}
+use Rattle.model.specs.Memory.{cleared}
 use Rattle.model.specs.Update.{Tree, Trees, Update, Listed}
 use Rattle.model.specs.Update.Tree.{cell, number, constant, operator}
 use Rattle.model.specs.Update.Trees.{nil, cons}
@@ -14,6 +15,7 @@ use Rattle.unroller.specs.Allowed.{allowed}
 use Rattle.unroller.specs.Layout.{tableWords, treeWords, treesWords, updatesWords, words, layout}
 use Rattle.unroller.proofs.Parts.{list-parts}
 use Rattle.unroller.proofs.Laws.{table-length, words-fit, layout-length}
+use Rattle.unroller.proofs.Stands.{zero-behind}
 use Rattle.comparer.specs.Laying.{Ended, emptied, Empties}
 
 -- ---- words emptied from the front
@@ -121,19 +123,8 @@ updates-heads : (us : List Update) → Heads (updatesWords us)
 updates-heads [] = tt
 updates-heads (u ∷ us) = (omega arith, heads-append (treeWords (u .source)) (updatesWords us) (tree-heads (u .source)) (updates-heads us))
 
-zeros-at : (n j : ℕ) → _≡_ {A = ℕ} (getD (replicate n 0) j 0) 0
-zeros-at zero j = refl
-zeros-at (suc n) zero = refl
-zeros-at (suc n) (suc j) = zeros-at n j
-
 zeros-behind : (l : List ℕ) (n j : ℕ) → length l ≤ j → getD (l ++ replicate n 0) j 0 ≡ 0
-zeros-behind [] n j h = zeros-at n j
-zeros-behind (x ∷ l) n zero h = absurd (omega arith)
-zeros-behind (x ∷ l) n (suc j) h = zeros-behind l n j (omega arith)
-
-getD-behind : (l r : List ℕ) (k : ℕ) → getD (l ++ r) (length l + k) 0 ≡ getD r k 0
-getD-behind [] r k = let e : 0 + k ≡ k = omega arith in ap (λ (j : ℕ). getD r j 0) e
-getD-behind (x ∷ l) r k = let e : suc (length l) + k ≡ suc (length l + k) = omega arith in ap (λ (j : ℕ). getD (x ∷ (l ++ r)) j 0) e ∙ getD-behind l r k
+zeros-behind l n j h = zero-behind l n j ∙ List·getD-eq-default l 0 h
 
 pub ended-layout : (l : Listed) (n : ℕ) → 30818 ≤ n → allowed l ≡ true → Ended (layout l n)
 unfolding layout words
@@ -147,7 +138,7 @@ ended-layout l n h a =
     record {
       long = let k = layout-length l n a h in omega arith;
       behind = λ i j e k.
-          let f : getD (u ++ z) (3 * i) 0 ≡ 0 = sym (ap₂ (λ (r : List ℕ) (q : ℕ). getD r (q + 3 * i) 0) (append-assoc t u z) (sym m) ∙ getD-behind t (u ++ z) (3 * i)) ∙ e in
+          let f : getD (u ++ z) (3 * i) 0 ≡ 0 = sym (ap₂ (λ (r : List ℕ) (q : ℕ). getD r (q + 3 * i) 0) (append-assoc t u z) (sym m) ∙ getD-append-add t (u ++ z) (3 * i) 0) ∙ e in
           let g = heads-at u z i (updates-heads (l .updates)) f in
           zeros-behind (t ++ u) (n - length (t ++ u)) j (omega arith);
       beyond = λ j k. zeros-behind (t ++ u) (n - length (t ++ u)) j (omega arith);
@@ -155,11 +146,7 @@ ended-layout l n h a =
 
 pub ended-zeros : (n : ℕ) → 30818 ≤ n → Ended (replicate n 0)
 ended-zeros n h = record {
-  long = let k = length-zeros n in omega arith;
-  behind = λ i j e k. zeros-at n j;
-  beyond = λ j k. zeros-at n j;
+  long = let k = length-replicate {A = ℕ} n 0 in omega arith;
+  behind = λ i j e k. zero-behind [] n j;
+  beyond = λ j k. zero-behind [] n j;
 }
-  where
-    length-zeros : (n : ℕ) → length {A = ℕ} (replicate n 0) ≡ n
-    length-zeros zero = refl
-    length-zeros (suc n) = ap suc (length-zeros n)

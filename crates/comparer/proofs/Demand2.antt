@@ -83,9 +83,6 @@ module _ (mask : ℕ) (l r : Listed) where
       ∙ after-alike m (r .tables .arrays) (r .updates) [] h k (λ b d f. shared b d (started-shared (arrayAt (l .tables .arrays) b) (rw (same-role p q y b) (sym (or-false (starts (arrayAt (r .tables .arrays) b))) ∙ f)))) (q .reads) a e
       (λ f. shared a e (compared-shared mask a (arrayAt (l .tables .arrays) a) (and-eq-true-iff (compared mask a (arrayAt (l .tables .arrays) a)) (inside (l .tables .arrays) a e) .0 at .0)))
 
-  true-agree : (a e : ℕ) → Agree l r a e → agreeAt l r a e ≡ true
-  true-agree a e g = same-complete (after free (l .updates) cell a e) (after free (r .updates) cell a e) (g Tree free cell cell (λ b d f. refl))
-
   apart-false : (a e : ℕ) → agreeAt l r a e ≡ false → Apart l r a e
   apart-false a e f = record { S = Tree; meaning = free; one = cell; other = cell; shared = λ b d g. refl; apart = λ g. true≢false (sym (same-complete (after free (l .updates) cell a e) (after free (r .updates) cell a e) g) ∙ f) }
 

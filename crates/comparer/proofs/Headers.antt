@@ -23,7 +23,7 @@ use Rattle.comparer.specs.Headers.{Heads, Counted, Leads, FirstApart, En
 use Rattle.comparer.specs.declared.tables.Table.{Table}
 use Rattle.comparer.specs.declared.tables.Table.the-variants as table
 use Rattle.comparer.specs.declared.tables.Tables.the-variants as tables
-use Rattle.comparer.proofs.SameTables.{sameArray-sound, after-local, non-local-none}
+use Rattle.comparer.proofs.SameTables.{sameArray-sound, same-numbers, after-local, non-local-none}
 
 -- two tables that are alike before number k, and not at it
 module _ {A : Type 0} (alike : A → A → Bool) (question : ℕ) (agreed : Reply) (d : A) where
@@ -108,10 +108,6 @@ module _ (list : List ℕ) (t : model.Tables) (h : Heads list t) where
           let f : local x ≡ false = b 0 (omega arith) in
           let p = and-eq-true-iff (not after || local x) (localsLast (local x) xs) .0 o in
           rw (f, prefix n xs (local x) (p .1) (omega arith) (λ a k. b (suc a) (omega arith)) (λ k. e (omega arith)))
-
-same-numbers : (xs : List ℕ) → sameNumbers xs xs ≡ true
-same-numbers [] = refl
-same-numbers (x ∷ xs) = and-eq-true-iff (eqb x x) (sameNumbers xs xs) .1 (eq-eqb x x refl, same-numbers xs)
 
 -- the five words of two arrays
 module _ (left right : List ℕ) (at : ℕ) (x y : Array) (h : ArrayAt left at x) (g : ArrayAt right at y) where

@@ -5,7 +5,7 @@ use mathlib.Core.Logic.{_⊎_, inl, inr}
 use mathlib.Core.List.{List, [], _∷_}
 use mathlib.Core.Bool.{Bool, true, false, _&&_, _||_, not, cond, false≢true, and-eq-true-iff}
 use lib.Dec.{eqb}
-use borrow.Author.Tests.{eqb-true}
+use borrow.Author.Tests.{eqb-true, eq-eqb}
 use Rattle.model.specs.Tables.{Array, arrayAt, local, starts}
 use Rattle.model.specs.Reply.{Reply, refused, both}
 use Rattle.unroller.specs.Allowed.{localsLast}
@@ -23,6 +23,10 @@ sameArray-sound x y e =
     let f : x .role ≡ y .role = eqb-true (x .role) (y .role) (p .0) in
     let g : x .extents ≡ y .extents = sameNumbers-sound (x .extents) (y .extents) (p .1) in
     λ i. record { role = f i; extents = g i }
+
+pub same-numbers : (xs : List ℕ) → sameNumbers xs xs ≡ true
+same-numbers [] = refl
+same-numbers (x ∷ xs) = rw (eq-eqb x x refl, same-numbers xs)
 
 module _ {A : Type 0} (alike : A → A → Bool) (sound : (x y : A) → alike x y ≡ true → x ≡ y) (question : ℕ) (agreed : Reply) where
   pub tables-cases : (k : ℕ) (xs ys : List A) → ((xs ≡ ys) × (sameTable alike question agreed k xs ys ≡ agreed)) ⊎ ((j : ℕ) × (sameTable alike question agreed k xs ys ≡ refused both question j))

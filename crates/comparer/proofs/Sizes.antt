@@ -4,7 +4,7 @@ use mathlib.Core.Logic.{⊎-elim}
 use mathlib.Core.Bool.{Bool, true, false, _&&_, _||_, and-false}
 use mathlib.Core.List.{List, [], _∷_}
 use Prim.Native.Nat.{ℕ, zero, suc, _+_, _-_, _*_, _/_, _%_, _^_, _≤_, _<_}
-use native.Mathlib.Nat.{eq-or-lt-of-le, mul-one, mul-assoc, mul-le-mul}
+use native.Mathlib.Nat.{eq-or-lt-of-le, mul-one, mul-assoc}
 use native.Mathlib.Omega.{arith}
 use lib.ListN.{length, getD, set, replicate, length-set}
 use lib.Seq.{getD-set-same, getD-set-other}
@@ -70,12 +70,6 @@ pub size-is : (list : List ℕ) (a x y z : ℕ) → x ≡ factorOf true (getD li
     → z ≡ factorOf (ltb 2 (getD list (record-at a + 1) 0)) (getD list (record-at a + 4) 0) → x * y * z ≡ sizeAt list a
 unfolding sizeAt
 size-is list a x y z p q r = rw (p, q, r)
-
-pub two-fit : (x y : ℕ) → x ≤ 1024 → y ≤ 1024 → x * y ≤ 1048576
-two-fit x y a b = mul-le-mul a b
-
-pub three-fit : (x y z : ℕ) → x ≤ 1024 → y ≤ 1024 → z ≤ 1024 → x * y * z ≤ 1073741824
-three-fit x y z a b c = mul-le-mul (two-fit x y a b) c
 
 -- ---- bases_of
 pub record SumsTo (list table : List ℕ) (k : ℕ) : Type 0 where

@@ -28,14 +28,14 @@ use Rattle.model.specs.Update.Tree.{cell}
 use Rattle.terms.specs.Term.{termCount}
 use Rattle.terms.proofs.Same.{same-refl}
 use Rattle.comparer.specs.Meaning.{Meaning, Content, after, free}
-use Rattle.comparer.specs.Match.{comparedSize, firstDifference, agreeAt, writtenTerms, matched, sameNumbers, sameArray, nonLocal, sameTable, operatorsReply, listsReply}
+use Rattle.comparer.specs.Match.{comparedSize, firstDifference, agreeAt, writtenTerms, matched, sameArray, nonLocal, sameTable, operatorsReply, listsReply}
 use Rattle.comparer.specs.Entry.{decodedReply, enough, entryReply, wordsReply, sideReply, programsReply}
 use Rattle.comparer.specs.Told.{Shared, Told}
 use Rattle.comparer.specs.Order.{NewOrder, reorder}
 use Rattle.comparer.specs.Claims.{Demand2Lists, ToldOf, Demand2Words, Demand2Programs, Kept, Demand3, LayoutRead, LayoutOnly, LayoutInjective, LayoutFits, Question26, UnrolledAllowed, FreeStandsForAll, NeverApartFromItself}
 use Rattle.comparer.proofs.Values.{meaning-of-value}
 use Rattle.comparer.proofs.Alike.{after-alike}
-use Rattle.comparer.proofs.SameTables.{started-shared}
+use Rattle.comparer.proofs.SameTables.{same-numbers, started-shared}
 use Rattle.comparer.proofs.First.{ElementAt, ElementNone, first-difference}
 use Rattle.comparer.proofs.Demand2.{Sound, demand2}
 use Rattle.comparer.proofs.KeptLists.{KeptLists, reordered-kept}
@@ -68,7 +68,7 @@ pub free-stands-for-all : FreeStandsForAll
 free-stands-for-all S m h t σ = meaning-of-value m h t σ
 
 -- a reply after 25 that is no refusal
-entered : (long : Bool) (reply : Reply) → isRefused (entryReply long reply) ≡ false → entryReply long reply ≡ reply
+pub entered : (long : Bool) (reply : Reply) → isRefused (entryReply long reply) ≡ false → entryReply long reply ≡ reply
 entered true reply n = refl
 entered false reply n = absurd (true≢false n)
 
@@ -168,10 +168,6 @@ demand3 old l e order h = record { accepts = isNew; size = size; leaves = leaves
 self-tables : {A : Type 0} (alike : A → A → Bool) → ((x : A) → alike x x ≡ true) → (question : ℕ) (agreed : Reply) (k : ℕ) (xs : List A) → sameTable alike question agreed k xs xs ≡ agreed
 self-tables alike h question agreed k [] = refl
 self-tables alike h question agreed k (x ∷ xs) = rw (h x, self-tables alike h question agreed (suc k) xs)
-
-same-numbers : (xs : List ℕ) → sameNumbers xs xs ≡ true
-same-numbers [] = refl
-same-numbers (x ∷ xs) = rw (eq-eqb x x refl, same-numbers xs)
 
 same-array : (x : Array) → sameArray x x ≡ true
 same-array x = rw (eq-eqb (x .role) (x .role) refl, same-numbers (x .extents))

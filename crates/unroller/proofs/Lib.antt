@@ -25,7 +25,7 @@ mod CheckWords
 mod CheckZeros
 mod CheckTrees
 mod CheckCells
-mod CheckArrays
+pub mod CheckArrays
 mod CheckTable
 mod CheckUpdates
 mod CheckWhole

@@ -114,7 +114,7 @@ module _ (w : List ℕ) where
   }
 
 -- zeros behind words, or none, give the same words
-zero-behind : (l : List ℕ) (k i : ℕ) → getD (l ++ replicate k 0) i 0 ≡ getD l i 0
+pub zero-behind : (l : List ℕ) (k i : ℕ) → getD (l ++ replicate k 0) i 0 ≡ getD l i 0
 zero-behind [] zero i = refl
 zero-behind [] (suc k) zero = refl
 zero-behind [] (suc k) (suc i) = zero-behind [] k i

@@ -1,5 +1,6 @@
 use native.Mathlib.Omega.{arith}
-use Rattle.comparer.proofs.Sizes.{size-is, two-fit, three-fit}
+use Rattle.unroller.proofs.CheckArrays.{two-fit, three-fit}
+use Rattle.comparer.proofs.Sizes.{size-is}
 use borrow.Author.Needs.{needs}
 use Rattle.comparer.proofs.compare.size_of.Statement.{statement}
 use Rattle.comparer.proofs.compare.size_of.Tie as tie
