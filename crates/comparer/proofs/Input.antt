@@ -1,24 +1,22 @@
--- Framed input: what a frame means, and that a cut behind byte 32,771 changes no reply.
-use Prim.Native.Nat.{ℕ, zero, suc, _+_, _-_, _*_, _/_, _%_, _≤_, _<_}
+-- Framed input: what a frame means, demand 2 for it, and that a cut behind byte 32,771 changes no reply.
+use Prim.Native.Nat.{ℕ, _+_, _-_, _*_, _/_, _%_, _≤_, _<_}
 use native.Mathlib.Omega.{arith}
-use mathlib.Core.Path.{_≡_, refl, sym, ap, ap₂, _∙_}
+use mathlib.Core.Path.{_≡_, refl, sym, ap, _∙_, subst}
 use mathlib.Core.List.{List, [], _∷_, _++_}
-use mathlib.Core.Bool.{Bool, true, false}
-use lib.ListN.{length, getD, take, drop, length-append, length-take, length-drop}
+use mathlib.Core.Bool.{Bool, true, false, true≢false}
+use lib.ListN.{length, take, drop, length-append, length-take, length-drop}
 use lib.Seq.{take-append-seam, drop-append-seam, take-take, take-all}
 use lib.Dec.{leb}
 use borrow.Author.Tests.{leb-true, leb-false, le-leb, lt-leb}
 use Rattle.model.specs.Test.{if_then_else_}
-use Rattle.model.specs.Update.{Listed}
 use Rattle.model.specs.Reply.{Reply, equal, refused, left, right, input, isRefused}
 use Rattle.reader.specs.Field.{littleEndian, no}
 use Rattle.reader.specs.Grammar.{readProgram}
-use Rattle.unroller.specs.Run.{Ran, ok, stop}
-use Rattle.unroller.specs.Unroll.{unrolledBy, unrolled}
-use Rattle.comparer.specs.Match.{listsReply}
-use Rattle.comparer.specs.Entry.{sideReply, programsReply, allBits, framedReply, inputReply}
+use Rattle.unroller.specs.Run.{ok, stop}
+use Rattle.unroller.specs.Unroll.{unrolled}
+use Rattle.comparer.specs.Entry.{programsReply, allBits, leftIn, rightIn, framedReply, inputReply}
 use Rattle.comparer.specs.Rows.{framed}
-use Rattle.comparer.specs.Claims.{InputCut, SameValues, EqualInput}
+use Rattle.comparer.specs.Claims.{ToldOf, Demand2Input, InputCut, SameValues, EqualInput}
 use Rattle.comparer.proofs.Theorems.{demand2-programs}
 
 -- a frame around two programs, the left within its limit
@@ -63,25 +61,33 @@ input-cut (a ∷ []) = refl
 input-cut (a ∷ b ∷ t) =
     rw (le-leb 2 (length (take 32771 (a ∷ b ∷ t))) (omega arith), le-leb 2 (length (a ∷ b ∷ t)) (omega arith)) (framed-cut (a + 256 * (b + 256 * 0)) t)
 
--- a frame that is answered "equal" holds two programs that are
-pub equal-input : EqualInput
+-- a frame that is not refused is answered as its two programs are
+unrefused : (s : List ℕ) → isRefused (inputReply s) ≡ false → inputReply s ≡ programsReply allBits (leftIn s) (rightIn s)
 unfolding inputReply
-equal-input s n e = go (leb 2 (length s)) e
+unrefused s h = go (leb 2 (length s)) (leb (littleEndian 2 s 0) 16384) (leb (littleEndian 2 s 0) (length (drop 2 s))) h
   where
-    said : programsReply allBits (take (littleEndian 2 s 0) (drop 2 s)) (drop (littleEndian 2 s 0) (drop 2 s)) ≡ equal n
-        → SameValues (take (littleEndian 2 s 0) (drop 2 s)) (drop (littleEndian 2 s 0) (drop 2 s)) n
-    said r =
-        let t = demand2-programs allBits (take (littleEndian 2 s 0) (drop 2 s)) (drop (littleEndian 2 s 0) (drop 2 s)) (ap isRefused r) in
-        let q = t .told .same n .0 r in
-        record { l = t .l; r = t .r; isLeft = t .isLeft; isRight = t .isRight; count = q .0; agree = q .1 }
+    told : Reply
+    told = programsReply allBits (leftIn s) (rightIn s)
 
-    inner : (b c : Bool) → (if b then (if c then programsReply allBits (take (littleEndian 2 s 0) (drop 2 s)) (drop (littleEndian 2 s 0) (drop 2 s)) else refused input 1 0) else refused left 2 0) ≡ equal n
-        → SameValues (take (littleEndian 2 s 0) (drop 2 s)) (drop (littleEndian 2 s 0) (drop 2 s)) n
-    inner true true r = said r
-    inner true false r = absurd (let z : _≡_ {A = ℕ} 0 1 = cc in omega arith)
-    inner false c r = absurd (let z : _≡_ {A = ℕ} 0 1 = cc in omega arith)
+    asked : Bool → Bool → Bool → Reply
+    asked b c d = if b then (if c then (if d then told else refused input 1 0) else refused left 2 0) else refused input 1 0
 
-    go : (b : Bool) → (if b then framedReply (littleEndian 2 s 0) (drop 2 s) else refused input 1 0) ≡ equal n
-        → SameValues (take (littleEndian 2 s 0) (drop 2 s)) (drop (littleEndian 2 s 0) (drop 2 s)) n
-    go true r = inner (leb (littleEndian 2 s 0) 16384) (leb (littleEndian 2 s 0) (length (drop 2 s))) r
-    go false r = absurd (let z : _≡_ {A = ℕ} 0 1 = cc in omega arith)
+    go : (b c d : Bool) → isRefused (asked b c d) ≡ false → asked b c d ≡ told
+    go true true true n = refl
+    go true true false n = absurd (true≢false n)
+    go true false d n = absurd (true≢false n)
+    go false c d n = absurd (true≢false n)
+
+pub demand2-input : Demand2Input
+demand2-input s h =
+    let e = unrefused s h in
+    subst (ToldOf allBits _ (leftIn s) (rightIn s)) (sym e) (demand2-programs allBits (leftIn s) (rightIn s) (sym (ap isRefused e) ∙ h))
+
+-- what is told of two programs, where the reply is "equal"
+pub same-values : (one other : List ℕ) (reply : Reply) (n : ℕ) → ToldOf allBits (λ p l. unrolled p ≡ ok l) one other reply → reply ≡ equal n → SameValues one other n
+same-values one other reply n t e =
+    let q = t .told .same n .0 e in
+    record { l = t .l; r = t .r; isLeft = t .isLeft; isRight = t .isRight; count = q .0; agree = q .1 }
+
+pub equal-input : EqualInput
+equal-input s n e = same-values (leftIn s) (rightIn s) (inputReply s) n (demand2-input s (ap isRefused e)) e

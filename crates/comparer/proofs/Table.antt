@@ -1,18 +1,16 @@
 -- The starred rows, computed; and examples that a wrong definition would fail.
-use Prim.Native.Nat.{ℕ, zero, suc, _+_, _≤_}
-use native.Mathlib.Omega.{arith}
-use mathlib.Core.Path.{_≡_, refl, sym, ap, ap₂, _∙_}
+use Prim.Native.Nat.{ℕ}
+use mathlib.Core.Path.{_≡_, refl, ap, ap₂, _∙_}
 use mathlib.Core.List.{List, [], _∷_, map}
-use mathlib.Core.Bool.{Bool, true, false, and-eq-true-iff}
+use mathlib.Core.Bool.{true, and-eq-true-iff}
 use lib.ListN.{length}
 use lib.Dec.{leb}
 use borrow.Author.Tests.{leb-true}
 use Rattle.model.specs.Test.{every}
-use Rattle.model.specs.Tables.{Array, Tables}
-use Rattle.model.specs.Update.{Tree, Update, Listed, size, sizes}
-use Rattle.model.specs.Update.Tree.{cell, number, constant, operator}
+use Rattle.model.specs.Update.{Tree, Update, Listed}
+use Rattle.model.specs.Update.Tree.{cell, operator}
 use Rattle.model.specs.Update.Trees.{nil, cons}
-use Rattle.model.specs.Reply.{Reply, equal, differs, refused, left, right, both}
+use Rattle.model.specs.Reply.{equal, differs}
 use Rattle.reader.specs.Field.{field, byte, u16, u32, i8, i16, times}
 use Rattle.reader.specs.Syntax.{count, counts}
 use Rattle.reader.specs.Grammar as Grammar
@@ -24,12 +22,12 @@ use Rattle.comparer.specs.Meaning.{valueOf, valuesOf}
 use Rattle.comparer.specs.Match.{listsReply}
 use Rattle.comparer.specs.Entry.{programsReply, inputReply, allBits}
 use Rattle.comparer.specs.Line.{lineOf}
-use Rattle.comparer.specs.Rows.{Row, framed, starred, L}
+use Rattle.comparer.specs.Rows.{Row, framed, starred}
 use Rattle.comparer.specs.Claims.{StarredRows}
 use Rattle.comparer.proofs.Input.{framed-programs}
 
-rows-programs : (any : List ℕ) → map (λ (x : Row). programsReply allBits (x .one) (x .other any)) starred ≡ map (λ (x : Row). x .reply) starred
-unfolding field byte u16 u32 i8 i16 times Grammar.head Grammar.arity Grammar.operators Grammar.extent Grammar.array Grammar.arrays Grammar.tables Grammar.form Grammar.subscripts Grammar.index Grammar.readOf Grammar.literalOf Grammar.constantOf Grammar.applyOf Grammar.node Grammar.applied Grammar.expression Grammar.statementOf Grammar.step Grammar.loopOf Grammar.guardOf Grammar.items Grammar.itemOf Grammar.nested Grammar.body Grammar.program Grammar.readProgram Run.worked Run.cellFrom Run.cellAt Run.tree Run.trees count counts Run.readable Run.readables Run.update Run.indices Run.rounds Run.run Run.runs runProgram unrolled same sames parts partsOf termCount valueOf valuesOf listsReply programsReply
+rows-programs : (any : List ℕ) → map (λ (x : Row). lineOf (programsReply allBits (x .one) (x .other any))) starred ≡ map (λ (x : Row). x .line) starred
+unfolding field byte u16 u32 i8 i16 times Grammar.head Grammar.arity Grammar.operators Grammar.extent Grammar.array Grammar.arrays Grammar.tables Grammar.form Grammar.subscripts Grammar.index Grammar.readOf Grammar.literalOf Grammar.constantOf Grammar.applyOf Grammar.node Grammar.applied Grammar.expression Grammar.statementOf Grammar.step Grammar.loopOf Grammar.guardOf Grammar.items Grammar.itemOf Grammar.nested Grammar.body Grammar.program Grammar.readProgram Run.worked Run.cellFrom Run.cellAt Run.tree Run.trees count counts Run.readable Run.readables Run.update Run.indices Run.rounds Run.run Run.runs runProgram unrolled same sames parts partsOf termCount valueOf valuesOf listsReply programsReply lineOf
 rows-programs any = refl
 
 -- every left side is within its limit
@@ -37,28 +35,14 @@ all-short : every (λ (x : Row). leb (length (x .one)) 16384) starred ≡ true
 all-short = refl
 
 framed-all : (any : List ℕ) (rows : List Row) → every (λ (x : Row). leb (length (x .one)) 16384) rows ≡ true
-    → map (λ (x : Row). inputReply (framed (x .one) (x .other any))) rows ≡ map (λ (x : Row). programsReply allBits (x .one) (x .other any)) rows
+    → map (λ (x : Row). lineOf (inputReply (framed (x .one) (x .other any)))) rows ≡ map (λ (x : Row). lineOf (programsReply allBits (x .one) (x .other any))) rows
 framed-all any [] e = refl
 framed-all any (x ∷ xs) e =
     let p = and-eq-true-iff (leb (length (x .one)) 16384) (every (λ (x : Row). leb (length (x .one)) 16384) xs) .0 e in
-    ap₂ {C = List Reply} _∷_ (framed-programs (x .one) (x .other any) (leb-true (length (x .one)) 16384 (p .0))) (framed-all any xs (p .1))
+    ap₂ {C = List (List ℕ)} _∷_ (ap lineOf (framed-programs (x .one) (x .other any) (leb-true (length (x .one)) 16384 (p .0)))) (framed-all any xs (p .1))
 
 pub starred-rows : StarredRows
 starred-rows any = framed-all any starred all-short ∙ rows-programs any
-
--- The lines of the rows: `equal 2`, `differs 1 0`, `refused left 11 20`.
-v-equal : lineOf (equal 2) ≡ 0x65 ∷ 0x71 ∷ 0x75 ∷ 0x61 ∷ 0x6C ∷ 0x20 ∷ 0x32 ∷ 0x0A ∷ []
-unfolding lineOf
-v-equal = refl
-
-v-differs : lineOf (differs 1 0) ≡ 0x64 ∷ 0x69 ∷ 0x66 ∷ 0x66 ∷ 0x65 ∷ 0x72 ∷ 0x73 ∷ 0x20 ∷ 0x31 ∷ 0x20 ∷ 0x30 ∷ 0x0A ∷ []
-unfolding lineOf
-v-differs = refl
-
-v-refused : lineOf (refused left 11 20) ≡
-    0x72 ∷ 0x65 ∷ 0x66 ∷ 0x75 ∷ 0x73 ∷ 0x65 ∷ 0x64 ∷ 0x20 ∷ 0x6C ∷ 0x65 ∷ 0x66 ∷ 0x74 ∷ 0x20 ∷ 0x31 ∷ 0x31 ∷ 0x20 ∷ 0x32 ∷ 0x30 ∷ 0x0A ∷ []
-unfolding lineOf
-v-refused = refl
 
 -- an in array and an out array of two cells each, and an operator of two arguments
 abbrev listOf : List Update → Listed

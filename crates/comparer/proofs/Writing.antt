@@ -11,7 +11,7 @@ use lib.Dec.{ltb}
 use borrow.Author.Tests.{lt-ltb, le-ltb}
 use Rattle.model.specs.Reply.{Reply, equal, differs, refused, Side, left, right, both, input}
 use Rattle.unroller.specs.Layout.{padded}
-use Rattle.comparer.specs.Line.{digits, decimal, sideText, spaced, lineOf}
+use Rattle.comparer.specs.Line.{codes, digits, decimal, sideText, spaced, lineOf}
 use Rattle.comparer.specs.Writing.{Holds, Adds, tens, AddsNumber, Begins}
 use Rattle.comparer.specs.declared.line.Line.{Line}
 
@@ -96,33 +96,24 @@ begins : (empty r : Line) (text whole : List ℕ) → Holds empty [] → Adds em
 unfolding Adds Begins
 begins empty r text whole h a l e = (text, a [] h (omega arith), l, e)
 
-abbrev equalText : List ℕ
-equalText = 0x65 ∷ 0x71 ∷ 0x75 ∷ 0x61 ∷ 0x6C ∷ []
-
-abbrev differsText : List ℕ
-differsText = 0x64 ∷ 0x69 ∷ 0x66 ∷ 0x66 ∷ 0x65 ∷ 0x72 ∷ 0x73 ∷ []
-
-abbrev refusedText : List ℕ
-refusedText = 0x72 ∷ 0x65 ∷ 0x66 ∷ 0x75 ∷ 0x73 ∷ 0x65 ∷ 0x64 ∷ []
-
 module _ (empty : Line) (none : Holds empty []) where
-  pub equal-begins : (x r : Line) (n : ℕ) → Adds empty equalText x → Adds x (spaced (decimal n)) r → Begins r (lineOf (equal n))
+  pub equal-begins : (x r : Line) (n : ℕ) → Adds empty (codes "equal") x → Adds x (spaced (decimal n)) r → Begins r (lineOf (equal n))
   unfolding lineOf
   equal-begins x r n a b =
       let l = digits-length 20 n in
-      begins empty r (equalText ++ spaced (decimal n)) _ none (adds-more empty x r equalText (spaced (decimal n)) a b) (omega arith) refl
+      begins empty r (codes "equal" ++ spaced (decimal n)) _ none (adds-more empty x r (codes "equal") (spaced (decimal n)) a b) (omega arith) refl
 
-  pub differs-begins : (x y r : Line) (n m : ℕ) → Adds empty differsText x → Adds x (spaced (decimal n)) y → Adds y (spaced (decimal m)) r → Begins r (lineOf (differs n m))
+  pub differs-begins : (x y r : Line) (n m : ℕ) → Adds empty (codes "differs") x → Adds x (spaced (decimal n)) y → Adds y (spaced (decimal m)) r → Begins r (lineOf (differs n m))
   unfolding lineOf
   differs-begins x y r n m a b d =
       let l = digits-length 20 n in
       let k = digits-length 20 m in
       let e = length-append (decimal n) (spaced (decimal m)) in
-      begins empty r (differsText ++ (spaced (decimal n) ++ spaced (decimal m))) _ none
-      (adds-more empty x r differsText (spaced (decimal n) ++ spaced (decimal m)) a (adds-more x y r (spaced (decimal n)) (spaced (decimal m)) b d))
+      begins empty r (codes "differs" ++ (spaced (decimal n) ++ spaced (decimal m))) _ none
+      (adds-more empty x r (codes "differs") (spaced (decimal n) ++ spaced (decimal m)) a (adds-more x y r (spaced (decimal n)) (spaced (decimal m)) b d))
       (omega arith) (simp append-assoc)
 
-  pub refused-begins : (x y z r : Line) (s : Side) (n m : ℕ) → Adds empty refusedText x → Adds x (spaced (sideText s)) y → Adds y (spaced (decimal n)) z → Adds z (spaced (decimal m)) r
+  pub refused-begins : (x y z r : Line) (s : Side) (n m : ℕ) → Adds empty (codes "refused") x → Adds x (spaced (sideText s)) y → Adds y (spaced (decimal n)) z → Adds z (spaced (decimal m)) r
       → Begins r (lineOf (refused s n m))
   unfolding lineOf
   refused-begins x y z r s n m a b d f =
@@ -131,8 +122,8 @@ module _ (empty : Line) (none : Holds empty []) where
       let j = side-length s in
       let e = length-append (decimal n) (spaced (decimal m)) in
       let g = length-append (sideText s) (spaced (decimal n) ++ spaced (decimal m)) in
-      begins empty r (refusedText ++ (spaced (sideText s) ++ (spaced (decimal n) ++ spaced (decimal m)))) _ none
-      (adds-more empty x r refusedText (spaced (sideText s) ++ (spaced (decimal n) ++ spaced (decimal m))) a
+      begins empty r (codes "refused" ++ (spaced (sideText s) ++ (spaced (decimal n) ++ spaced (decimal m)))) _ none
+      (adds-more empty x r (codes "refused") (spaced (sideText s) ++ (spaced (decimal n) ++ spaced (decimal m))) a
       (adds-more x y r (spaced (sideText s)) (spaced (decimal n) ++ spaced (decimal m)) b (adds-more y z r (spaced (decimal n)) (spaced (decimal m)) d f)))
       (omega arith) (simp append-assoc)
 

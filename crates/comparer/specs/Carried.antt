@@ -3,20 +3,22 @@ use Prim.Native.Nat.{ℕ}
 use mathlib.Core.Path.{_≡_}
 use mathlib.Core.List.{List, List·Memᴰ}
 use mathlib.Core.Bool.{Bool, true, false}
-use mathlib.Core.Option.{Option, some}
-use lib.ListN.{length, take, drop}
+use mathlib.Core.Option.{some}
+use lib.ListN.{length, take}
 use Rattle.model.specs.Update.{Listed}
 use Rattle.model.specs.Reply.{isRefused}
-use Rattle.reader.specs.Field.{littleEndian}
 use Rattle.unroller.specs.Run.{ok}
 use Rattle.unroller.specs.Layout.{layout}
 use Rattle.unroller.specs.Decode.{decode}
 use Rattle.unroller.specs.Unroll.{unrolled}
-use Rattle.comparer.specs.Entry.{entryReply, wordsReply, programsReply, inputReply}
+use Rattle.comparer.specs.Entry.{entryReply, wordsReply, programsReply, allBits, leftIn, rightIn, inputReply}
+use Rattle.comparer.specs.Line.{lineOf}
+use Rattle.comparer.specs.Writing.{Holds}
 use Rattle.comparer.specs.Order.{NewOrder, reorder}
 use Rattle.comparer.specs.Rows.{Row, framed, starred}
 use Rattle.comparer.specs.Claims.{ToldOf, SameValues}
 use Rattle.comparer.specs.Answers.{replySays}
+use Rattle.comparer.specs.declared.line.Line.{Line}
 use Rattle.comparer.specs.declared.reply.Reply.{Reply}
 use Rattle.comparer.specs.declared.reply.Reply.the-variants.{Equal}
 
@@ -39,12 +41,19 @@ ReorderedAnswered =
     → ((replySays r ≡ wordsReply mask (layout (reorder l order) (length old)) third cells terms → replySays q ≡ wordsReply mask old third cells terms → replySays r ≡ replySays q)
     × (replySays r ≡ wordsReply mask third (layout (reorder l order) (length old)) cells terms → replySays q ≡ wordsReply mask third old cells terms → replySays r ≡ replySays q))
 
+-- Demand 2, for what `compare_input` answers.
+abbrev pub InputAnswered : Type 1
+InputAnswered =
+    (long : Bool) (s : List ℕ) (r : Reply) → replySays r ≡ entryReply long (inputReply s) → isRefused (replySays r) ≡ false
+    → ToldOf allBits (λ p l. unrolled p ≡ ok l) (leftIn s) (rightIn s) (replySays r)
+
 -- An "equal" of `compare_input` implies equal values for every content and meaning.
 abbrev pub EqualAnswered : Type 1
 EqualAnswered =
-    (long : Bool) (s : List ℕ) (r : Reply) (n : ℕ) → replySays r ≡ entryReply long (inputReply s) → r ≡ Equal n
-    → SameValues (take (littleEndian 2 s 0) (drop 2 s)) (drop (littleEndian 2 s 0) (drop 2 s)) n
+    (long : Bool) (s : List ℕ) (r : Reply) (n : ℕ) → replySays r ≡ entryReply long (inputReply s) → r ≡ Equal n → SameValues (leftIn s) (rightIn s) n
 
--- The starred rows, for what `compare_input` answers in enough memory.
+-- The starred rows, for what `compare_input` answers in enough memory and `line_of` makes of it: its bytes are the line as the paper prints it.
 abbrev pub StarredAnswered : Type 0
-StarredAnswered = (any : List ℕ) (x : Row) → List·Memᴰ x starred → (r : Reply) → replySays r ≡ entryReply true (inputReply (framed (x .one) (x .other any))) → replySays r ≡ x .reply
+StarredAnswered =
+    (any : List ℕ) (x : Row) → List·Memᴰ x starred → (r : Reply) (line : Line)
+    → replySays r ≡ entryReply true (inputReply (framed (x .one) (x .other any))) → Holds line (lineOf (replySays r)) → take (line .len) (line .bytes) ≡ x .line

@@ -5,20 +5,20 @@ use mathlib.Core.Path.{_≡_}
 use mathlib.Core.Logic.{_↔_}
 use mathlib.Core.List.{List, map}
 use mathlib.Core.Bool.{true, false, _||_, not}
-use mathlib.Core.Option.{Option, some}
-use lib.ListN.{length, getD, take, drop}
+use mathlib.Core.Option.{some}
+use lib.ListN.{length, getD, take}
 use Rattle.model.specs.Tables.{arrayAt, local}
 use Rattle.model.specs.Update.{Tree, Listed, written}
 use Rattle.model.specs.Reply.{Reply, equal, isRefused}
-use Rattle.reader.specs.Field.{littleEndian}
-use Rattle.unroller.specs.Run.{Ran, ok}
+use Rattle.unroller.specs.Run.{ok}
 use Rattle.unroller.specs.Allowed.{allowed}
 use Rattle.unroller.specs.Layout.{layout}
 use Rattle.unroller.specs.Decode.{decode, accepted}
 use Rattle.unroller.specs.Unroll.{unrolled}
 use Rattle.comparer.specs.Meaning.{Meaning, Content, valueOf, after, free}
 use Rattle.comparer.specs.Match.{comparedSize, listsReply}
-use Rattle.comparer.specs.Entry.{wordsReply, programsReply, allBits, inputReply}
+use Rattle.comparer.specs.Entry.{wordsReply, programsReply, allBits, leftIn, rightIn, inputReply}
+use Rattle.comparer.specs.Line.{lineOf}
 use Rattle.comparer.specs.Told.{Compared, Shared, Agree, Told}
 use Rattle.comparer.specs.Order.{NewOrder, reorder}
 use Rattle.comparer.specs.Rows.{Row, framed, starred}
@@ -46,6 +46,11 @@ abbrev pub Demand2Programs : Type 1
 Demand2Programs =
     (mask : ℕ) (one other : List ℕ) → isRefused (programsReply mask one other) ≡ false
     → ToldOf mask (λ p l. unrolled p ≡ ok l) one other (programsReply mask one other)
+
+-- Demand 2 for standard input: whatever it holds, if it is not refused.
+abbrev pub Demand2Input : Type 1
+Demand2Input =
+    (s : List ℕ) → isRefused (inputReply s) ≡ false → ToldOf allBits (λ p l. unrolled p ≡ ok l) (leftIn s) (rightIn s) (inputReply s)
 
 -- What a new order keeps: accepted, as long; the same value in each non-local and each written cell, for every content and meaning;
 -- the same reply beside any third slice, on either side, under any mask, with work memory of any lengths.
@@ -102,13 +107,11 @@ pub record SameValues (one other : List ℕ) (n : ℕ) : Type 1 where
   pub agree : (a e : ℕ) → Compared allBits l a e → Agree l r a e
 
 abbrev pub EqualInput : Type 1
-EqualInput =
-    (s : List ℕ) (n : ℕ) → inputReply s ≡ equal n
-    → SameValues (take (littleEndian 2 s 0) (drop 2 s)) (drop (littleEndian 2 s 0) (drop 2 s)) n
+EqualInput = (s : List ℕ) (n : ℕ) → inputReply s ≡ equal n → SameValues (leftIn s) (rightIn s) n
 
--- The ten starred rows, for any right-hand bytes where the paper says "any".
+-- The ten starred rows, each with its line as the paper prints it, for any right-hand bytes where the paper says "any".
 abbrev pub StarredRows : Type 0
-StarredRows = (any : List ℕ) → map (λ (x : Row). inputReply (framed (x .one) (x .other any))) starred ≡ map (λ (x : Row). x .reply) starred
+StarredRows = (any : List ℕ) → map (λ (x : Row). lineOf (inputReply (framed (x .one) (x .other any)))) starred ≡ map (λ (x : Row). x .line) starred
 
 -- The meaning of a term is the meaning of its expression: a value in the free meaning stands for all meanings.
 abbrev pub FreeStandsForAll : Type 1

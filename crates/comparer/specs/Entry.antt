@@ -1,5 +1,5 @@
 -- The replies of the entries: two lists in words, two programs, framed input (paper 01, "The questions" and "The program").
-use Prim.Native.Nat.{ℕ, _+_}
+use Prim.Native.Nat.{ℕ}
 use mathlib.Core.List.{List}
 use mathlib.Core.Bool.{Bool, _&&_}
 use mathlib.Core.Option.{Option, none, some}
@@ -48,6 +48,13 @@ programsReply mask l r = sideReply left (unrolled l) (λ x. sideReply right (unr
 -- the plain entry sets all bits
 abbrev pub allBits : ℕ
 allBits = 65535
+
+-- the two programs of a framed input: behind the left length, so many bytes, and the rest
+abbrev pub leftIn : List ℕ → List ℕ
+leftIn s = take (littleEndian 2 s 0) (drop 2 s)
+
+abbrev pub rightIn : List ℕ → List ℕ
+rightIn s = drop (littleEndian 2 s 0) (drop 2 s)
 
 -- the bytes behind the left length, which is n
 abbrev pub framedReply : ℕ → List ℕ → Reply

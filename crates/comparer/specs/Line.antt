@@ -1,9 +1,16 @@
 -- The line that the program prints (paper 01, "The program"), as ASCII codes.
 use Prim.Native.Nat.{ℕ, zero, suc, _+_, _/_, _%_}
+use Prim.Native.Char.{code}
+use Prim.Native.String.{String, [] as end, _∷_ as _then_}
 use mathlib.Core.List.{List, [], _∷_, _++_}
-use mathlib.Core.Bool.{Bool, true, false}
+use mathlib.Core.Bool.{true, false}
 use lib.Dec.{ltb}
 use Rattle.model.specs.Reply.{Reply, equal, differs, refused, Side, left, right, both, input}
+
+-- the codes of a text
+abbrev pub codes : String → List ℕ
+codes end = []
+codes (c then s) = code c ∷ codes s
 
 -- a number in decimal, of at most k digits
 abbrev pub digits : ℕ → ℕ → List ℕ
@@ -15,10 +22,10 @@ abbrev pub decimal : ℕ → List ℕ
 decimal n = digits 20 n
 
 abbrev pub sideText : Side → List ℕ
-sideText left = 0x6C ∷ 0x65 ∷ 0x66 ∷ 0x74 ∷ []
-sideText right = 0x72 ∷ 0x69 ∷ 0x67 ∷ 0x68 ∷ 0x74 ∷ []
-sideText both = 0x62 ∷ 0x6F ∷ 0x74 ∷ 0x68 ∷ []
-sideText input = 0x69 ∷ 0x6E ∷ 0x70 ∷ 0x75 ∷ 0x74 ∷ []
+sideText left = codes "left"
+sideText right = codes "right"
+sideText both = codes "both"
+sideText input = codes "input"
 
 -- a blank, then the text
 abbrev pub spaced : List ℕ → List ℕ
@@ -26,7 +33,6 @@ spaced text = 0x20 ∷ text
 
 -- `equal N`, `differs A E` or `refused S K P`, and the line's end
 unfoldable pub lineOf : Reply → List ℕ
-lineOf (equal n) = (0x65 ∷ 0x71 ∷ 0x75 ∷ 0x61 ∷ 0x6C ∷ []) ++ spaced (decimal n) ++ (0x0A ∷ [])
-lineOf (differs a e) = (0x64 ∷ 0x69 ∷ 0x66 ∷ 0x66 ∷ 0x65 ∷ 0x72 ∷ 0x73 ∷ []) ++ spaced (decimal a) ++ spaced (decimal e) ++ (0x0A ∷ [])
-lineOf (refused s k p) =
-    (0x72 ∷ 0x65 ∷ 0x66 ∷ 0x75 ∷ 0x73 ∷ 0x65 ∷ 0x64 ∷ []) ++ spaced (sideText s) ++ spaced (decimal k) ++ spaced (decimal p) ++ (0x0A ∷ [])
+lineOf (equal n) = codes "equal" ++ spaced (decimal n) ++ (0x0A ∷ [])
+lineOf (differs a e) = codes "differs" ++ spaced (decimal a) ++ spaced (decimal e) ++ (0x0A ∷ [])
+lineOf (refused s k p) = codes "refused" ++ spaced (sideText s) ++ spaced (decimal k) ++ spaced (decimal p) ++ (0x0A ∷ [])

@@ -2,7 +2,8 @@
 use Prim.Native.Nat.{ℕ, _/_, _%_}
 use mathlib.Core.List.{List, [], _∷_, _++_}
 use lib.ListN.{length, set}
-use Rattle.model.specs.Reply.{Reply, equal, differs, refused, left, right}
+use Prim.Native.String.{String}
+use Rattle.comparer.specs.Line.{codes}
 
 -- program L, which copies two elements
 abbrev pub L : List ℕ
@@ -14,27 +15,27 @@ L =
 abbrev pub framed : List ℕ → List ℕ → List ℕ
 framed l r = length l % 256 ∷ length l / 256 ∷ (l ++ r)
 
--- a left, a right made from any bytes, and the reply
+-- a left, a right made from any bytes, and the line that is printed, with its end
 pub record Row : Type 0 where
   pub one : List ℕ
   pub other : List ℕ → List ℕ
-  pub reply : Reply
+  pub line : List ℕ
 
-abbrev pub row : List ℕ → List ℕ → Reply → Row
-row l r w = record { one = l; other = λ any. r; reply = w }
+abbrev pub row : List ℕ → List ℕ → String → Row
+row l r text = record { one = l; other = λ any. r; line = codes text ++ (0x0A ∷ []) }
 
-abbrev pub rowAny : List ℕ → Reply → Row
-rowAny l w = record { one = l; other = λ any. any; reply = w }
+abbrev pub rowAny : List ℕ → String → Row
+rowAny l text = record { one = l; other = λ any. any; line = codes text ++ (0x0A ∷ []) }
 
 abbrev pub starred : List Row
 starred =
-    row L (set (set (set (set L 16 1) 18 0) 20 255) 21 255) (equal 2)
-    ∷ row L (set (set L 29 1) 31 255) (differs 1 0)
-    ∷ row L (set L 18 0) (differs 1 1)
-    ∷ row L (set L 16 1) (differs 1 0)
-    ∷ row (set L 16 2) (set L 16 2) (equal 2)
-    ∷ row L (set L 16 2) (differs 1 0)
-    ∷ rowAny (set L 20 0) (refused left 11 20)
-    ∷ rowAny (set L 18 2) (refused left 16 22)
-    ∷ row L (set L 28 1) (refused right 17 22)
-    ∷ rowAny (set L 23 0) (refused left 13 23) ∷ []
+    row L (set (set (set (set L 16 1) 18 0) 20 255) 21 255) "equal 2"
+    ∷ row L (set (set L 29 1) 31 255) "differs 1 0"
+    ∷ row L (set L 18 0) "differs 1 1"
+    ∷ row L (set L 16 1) "differs 1 0"
+    ∷ row (set L 16 2) (set L 16 2) "equal 2"
+    ∷ row L (set L 16 2) "differs 1 0"
+    ∷ rowAny (set L 20 0) "refused left 11 20"
+    ∷ rowAny (set L 18 2) "refused left 16 22"
+    ∷ row L (set L 28 1) "refused right 17 22"
+    ∷ rowAny (set L 23 0) "refused left 13 23" ∷ []
