@@ -1,5 +1,5 @@
 -- The state of the cells.
-use mathlib.Core.Path.{_≡_, refl, _∙_}
+use mathlib.Core.Path.{_≡_, refl, ap, _∙_}
 use Prim.Native.Nat.{ℕ, _+_, _-_, _<_, _≤_}
 use mathlib.Core.List.{List, [], _∷_, _++_}
 use mathlib.Core.Bool.{Bool, true, false, _&&_, _||_, not}
@@ -16,6 +16,10 @@ use Rattle.unroller.specs.Decode.{mayRead}
 use Rattle.unroller.specs.State.{nowhere, stateAt, spot, State, Small, known, readableIn, writableIn}
 use Rattle.unroller.specs.CheckAnswers.{factorOf}
 use Rattle.unroller.proofs.CheckWords.{within-true, within-low, within-high}
+
+-- a store at whatever is the same place
+pub set-place : (l : List ℕ) (i j v : ℕ) → i ≡ j → set l i v ≡ set l j v
+set-place l i j v e = ap (λ (k : ℕ). set l k v) e
 
 -- factors
 pub factor-low : (u : Bool) (x : ℕ) → u ≡ true → x < 1 → 0 ≡ factorOf u x

@@ -1,10 +1,8 @@
 -- `mark` meets its contract. A cell that may be written lies in the state.
 use borrow.Author.Needs.{needs}
 use native.Mathlib.Omega.{arith}
-use mathlib.Core.Path.{_≡_, ap}
 use Prim.Native.Nat.{ℕ, _+_, _-_, _*_}
-use lib.ListN.{set}
-use Rattle.unroller.proofs.CheckCells.{writable-known}
+use Rattle.unroller.proofs.CheckCells.{writable-known, set-place}
 use Rattle.unroller.specs.State.{spot}
 use Rattle.unroller.proofs.lists.mark.Statement.{statement}
 use Rattle.unroller.proofs.lists.mark.Tie as tie
@@ -40,8 +38,7 @@ returns : tie.Need-returns
 returns c =
     let a = c .before .before .before .args in
     let k = writable-known (a .state .now) (a .x) (a .y) (c .before .before .before .pre .0) in
-    let e : 2048 * c .before .wide .result + c .wide2 .result ≡ spot (a .x) (a .y) = omega arith in
-    ap (λ (i : ℕ). set (a .state .now) i 2) e
+    set-place (a .state .now) _ (spot (a .x) (a .y)) 2 (omega arith)
 
 pub mark-spec : {M : Type 1} → statement M
 mark-spec = tie.close (tie.spec wide-requires mul-state wide-requires-2 add-state slice-write-state same-length returns)
