@@ -76,18 +76,16 @@ pub struct Program {
 }
 
 pub fn read_program(bytes: &[u8]) -> Result<Program, Refusal> {
-    Question::ProgramLength.ask(bytes.len() <= PROGRAM_BYTES, 0)?;
-    let mut reader = Reader { bytes, place: 0, program: Program::default() };
+    let mut reader = Reader::new(bytes)?;
     reader.tables()?;
     reader.items(Scope { loops: 0, nesting: 0 })?;
     Question::FileEnd.ask(reader.place == bytes.len(), reader.place)?;
     Ok(reader.program)
 }
 
-/// The tables alone, with the place of the first item; the file may be longer
-/// than a program.
+/// The tables alone, with the place of the first item.
 pub fn read_tables(bytes: &[u8]) -> Result<(Tables, usize), Refusal> {
-    let mut reader = Reader { bytes, place: 0, program: Program::default() };
+    let mut reader = Reader::new(bytes)?;
     reader.tables()?;
     Ok((reader.program.tables, reader.place))
 }
@@ -106,7 +104,12 @@ struct Reader<'a> {
     program: Program,
 }
 
-impl Reader<'_> {
+impl<'a> Reader<'a> {
+    fn new(bytes: &'a [u8]) -> Result<Reader<'a>, Refusal> {
+        Question::ProgramLength.ask(bytes.len() <= PROGRAM_BYTES, 0)?;
+        Ok(Reader { bytes, place: 0, program: Program::default() })
+    }
+
     /// The next field, if it is there as a whole.
     fn field<const WIDTH: usize>(&mut self) -> Result<[u8; WIDTH], Refusal> {
         let field = self.bytes[self.place..].first_chunk::<WIDTH>();

@@ -60,16 +60,26 @@ fn parts_of_program_l() {
     assert_eq!(call(14, &[2], &lent), "14 1");
     assert_eq!(call(13, &[MOST], &lent), "13 3");
     assert_eq!(call(18, &[27, 1], &lent), "18 1 1 32");
-    assert_eq!(call(18, &[27, 9], &lent), "18 0 3 34");
+    assert_eq!(call(18, &[27, 8], &lent), "18 0 3 34");
+    assert_eq!(call(18, &[27, 9], &lent), "18 0 12 27");
     assert_eq!(call(19, &[15, 8, 0], &lent), "19 1 34");
     assert_eq!(call(19, &[15, 0, 0], &lent), "19 0 12 15");
-    assert_eq!(call(19, &[15, 9, 0], &lent), "19 0 12 15");
+    for [left, loops] in [[9, 0], [8, 1], [3, 6], [8, 8], [MOST, 1]] {
+        assert_eq!(call(19, &[15, left, loops], &lent), "19 0 12 15");
+    }
+    assert_eq!(call(19, &[33, 3, 5], &lent), "19 1 34");
     assert_eq!(call(20, &[24, 1], &L), "20 1 27 0 1 0 0 0 0 0 0 0");
     assert_eq!(call(20, &[33, 9], &L), "20 0 12 33 0 0 0 0 0 0 0 0 0");
     assert_eq!(call(21, &[16, 0, 2], &L), "21 1 20");
-    assert_eq!(call(21, &[16, MOST, MOST], &L), "21 0 3 34");
+    assert_eq!(call(21, &[16, 8, MOST], &L), "21 0 3 34");
+    assert_eq!(call(21, &[16, 8, 0], &L), "21 1 16");
+    assert_eq!(call(21, &[16, 9, 0], &L), "21 0 12 16");
+    assert_eq!(call(21, &[16, MOST, MOST], &L), "21 0 12 16");
     assert_eq!(call(22, &[], &L), format!("22 1 15{}", text(&row)));
     assert_eq!(call(22, &[], &L[..14]), format!("22 0 3 13{}", text(&[0; 115])));
+    let long = [&L[..], &[0; 16_385 - 34]].concat();
+    assert_eq!(call(22, &[], &long[1..]), format!("22 0 4 0{}", text(&[0; 115])));
+    assert_eq!(call(22, &[], &long), format!("22 0 2 0{}", text(&[0; 115])));
     assert_eq!(call(23, &[], &L), "23 1");
     assert_eq!(call(23, &[], &L[..33]), "23 0 3 33");
 }

@@ -1,6 +1,7 @@
 pub mod Binds
 pub mod Numbers
 pub mod Computed
+pub mod Depth
 pub mod Lists
 pub mod Bytes
 pub mod Steps

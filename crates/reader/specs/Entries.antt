@@ -1,7 +1,6 @@
 -- What the entries answer beyond the grammar: definitions for every depth and number of loops, and what stands in a result's fields.
 use Prim.Native.Nat.{ℕ, zero, suc, _+_, _-_, _*_, _/_, _%_, _^_, _≤_, _<_, min}
 use mathlib.Core.List.{List, [], _∷_, _++_, map}
-use mathlib.Core.Bool.{_&&_}
 use lib.ListN.{length, getD, take, replicate}
 use lib.Dec.{leb, eqb}
 use lib.IntN.{ℤ, pos}
@@ -9,10 +8,10 @@ use mir.Syntax.{w8}
 use mir.Val.{toZ}
 use mathlib.Core.Path.{_≡_}
 use Rattle.model.specs.Test.{if_then_else_}
-use Rattle.reader.specs.Field.{Outcome, got, no, Reader, _>>=_, give, refuse}
+use Rattle.reader.specs.Field.{Outcome, got, no, Reader, _>>=_, give, refuse, times}
 use Rattle.model.specs.Tables.{Array, Tables, cells}
 use Rattle.reader.specs.Syntax.{Form, Expr, Items}
-use Rattle.reader.specs.Grammar.{form, index, readOf, literalOf, constantOf, body}
+use Rattle.reader.specs.Grammar.{tables, form, index, readOf, literalOf, constantOf, expression, body, sized}
 use Rattle.reader.specs.Answers.{placed}
 use Rattle.reader.specs.declared.fields.Place.{Place}
 use Rattle.reader.specs.declared.fields.Place.the-variants as place
@@ -39,9 +38,26 @@ pub record Before (s : List ℕ) (end w : ℕ) : Type 0 where
   pub eight : w < 2 ^ 64
   pub bytes : (j : ℕ) → j < 8 → 8 ≤ end + j → w / 2 ^ (8 * j) % 256 ≡ getD s (end + j - 8) 0
 
--- A form inside any number of loops. No file nests more than 8, so more are refused by 12.
+-- What a step reads at any depth. No file nests more than 8 deep, so beyond it 12 is asked first, at the place where the step begins.
+abbrev pub shallow : {A : Type 0} → ℕ → Reader A → Reader A
+shallow depth reader s at = if leb depth 8 then reader s at else no 12 at
+
 unfoldable pub formStep : ℕ → Reader Form
-formStep loops s at = if leb loops 8 then form loops s at else no 12 at
+formStep loops s at = shallow loops (form loops) s at
+
+unfoldable pub formsStep : ℕ → ℕ → Reader (List Form)
+formsStep loops n s at = shallow loops (times [] _∷_ (form loops) n) s at
+
+unfoldable pub expressionStep : Tables → ℕ → Reader Expr
+expressionStep t loops s at = shallow loops (expression t loops) s at
+
+-- inside so many loops, where loops and guards may still nest `left` deep
+unfoldable pub itemsStep : Tables → ℕ → ℕ → Reader Items
+itemsStep t left loops s at = shallow (loops + left) (body t (length s) left loops) s at
+
+-- the tables alone, of a file whose items are not read
+unfoldable pub tablesStep : List ℕ → Outcome Tables
+tablesStep s = sized tables s
 
 abbrev pub formSays : ℕ → FormRead → Outcome Form
 formSays loops r = placed (r .answer) (record { constant = r .constant; coefficients = take loops (r .coefficients) })
@@ -168,7 +184,3 @@ pub record TablesAre (m : Outcome Tables) (r : TablesRead) : Type 0 where
 abbrev pub continued : Place → (ℕ → Outcome ℕ) → Outcome ℕ
 continued (place.Next next) f = f next
 continued (place.Not number at) f = no number at
-
--- A run of items at any depth. No file has more than 8 left, or 8 loops, so more are refused by 12.
-unfoldable pub itemsStep : Tables → ℕ → ℕ → Reader Items
-itemsStep t left loops s at = if leb left 8 && leb loops 8 then body t (length s) left loops s at else no 12 at

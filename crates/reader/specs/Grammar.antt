@@ -223,5 +223,8 @@ program = do
   give (record { tables = t; items = is })
 
 -- Is the program at most 16,384 bytes? 2
+abbrev pub sized : {A : Type 0} → Reader A → List ℕ → Outcome A
+sized reader s = if leb (length s) 16384 then reader s 0 else no 2 0
+
 unfoldable pub readProgram : List ℕ → Outcome Program
-readProgram s = if leb (length s) 16384 then program s 0 else no 2 0
+readProgram s = sized program s

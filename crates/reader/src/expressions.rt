@@ -6,7 +6,7 @@ ghost use Rattle.reader.specs.Syntax.{count, counts};
 ghost use Rattle.reader.specs.Syntax.Exprs.{none as noArgs, more as moreArgs};
 ghost use Rattle.reader.specs.Grammar.{form, readOf, literalOf, constantOf, node as nodeOf, applied, expression};
 ghost use Rattle.reader.specs.Answers.{through, ended, fieldSays, placeSays};
-ghost use Rattle.reader.specs.Entries.{tablesIn, leafOf, arityOf};
+ghost use Rattle.reader.specs.Entries.{tablesIn, formsStep, expressionStep, leafOf, arityOf};
 use crate::fields::Field;
 use crate::fields::Place;
 use crate::fields::byte_at;
@@ -19,7 +19,7 @@ use crate::tables::dimensions_of;
 use crate::tables::operator_count;
 
 // The end of n forms in a row.
-pub fn forms_end(s: &[u8], at: usize, loops: usize, n: usize) -> Place
+pub(crate) fn forms_past(s: &[u8], at: usize, loops: usize, n: usize) -> Place
     ensures { λ r. ⌜ placeSays r ≡ ended (times [] _∷_ (form loops) n (now (s .entry)) at) ⌝ }
 {
     let mut place = at;
@@ -38,6 +38,16 @@ pub fn forms_end(s: &[u8], at: usize, loops: usize, n: usize) -> Place
     Place::Next(place)
 }
 
+// The end of n forms in a row inside any number of loops. Beyond 8 it is 12, of no form too.
+pub fn forms_end(s: &[u8], at: usize, loops: usize, n: usize) -> Place
+    ensures { λ r. ⌜ placeSays r ≡ ended (formsStep loops n (now (s .entry)) at) ⌝ }
+{
+    if 8 < loops {
+        return Place::Not(12, at);
+    }
+    forms_past(s, at, loops, n)
+}
+
 // One node that ends at a place.
 fn one_node(end: Place) -> Field
     ensures { λ r. ⌜ fieldSays r ≡ through (λ _. 1) (placeSays end) ⌝ }
@@ -53,7 +63,12 @@ fn read_end(s: &[u8], at: usize, tables: &[usize; 115], loops: usize) -> Field
 {
     match index_at(s, at, array_count(tables)) {
         Field::Not(number, place) => Field::Not(number, place),
-        Field::Is(array, next) => one_node(forms_end(s, next, loops, dimensions_of(tables, array))),
+        Field::Is(array, next) => one_node(forms_past(
+            s,
+            next,
+            loops,
+            dimensions_of(tables, array),
+        )),
     }
 }
 
@@ -149,8 +164,18 @@ fn args(s: &[u8], at: usize, tables: &[usize; 115], loops: usize, left: usize, n
 
 // The expression at `at`: the number of its nodes and the place past it. It is read as a single argument, so that `node` is called
 // from one place.
-pub fn expression_end(s: &[u8], at: usize, tables: &[usize; 115], loops: usize) -> Field
+pub(crate) fn expression_past(s: &[u8], at: usize, tables: &[usize; 115], loops: usize) -> Field
     ensures { λ r. ⌜ fieldSays r ≡ through count (expression (tablesIn (now (tables .entry))) loops (now (s .entry)) at) ⌝ }
 {
     args(s, at, tables, loops, 12, 1)
+}
+
+// The same inside any number of loops; beyond 8 it is 12.
+pub fn expression_end(s: &[u8], at: usize, tables: &[usize; 115], loops: usize) -> Field
+    ensures { λ r. ⌜ fieldSays r ≡ through count (expressionStep (tablesIn (now (tables .entry))) loops (now (s .entry)) at) ⌝ }
+{
+    if loops > 8 {
+        return Field::Not(12, at);
+    }
+    expression_past(s, at, tables, loops)
 }

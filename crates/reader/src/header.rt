@@ -6,9 +6,9 @@ ghost use mathlib.Core.Bool.{false};
 ghost use lib.ListN.{length};
 ghost use Rattle.model.specs.Test.{within};
 ghost use Rattle.reader.specs.Field.{times};
-ghost use Rattle.reader.specs.Grammar.{head, arity, extent, array as arrayReader, arrays as arraysReader, tables as tablesReader};
+ghost use Rattle.reader.specs.Grammar.{head, arity, extent, array as arrayReader, arrays as arraysReader};
 ghost use Rattle.reader.specs.Answers.{ended, placeSays, fieldSays};
-ghost use Rattle.reader.specs.Entries.{padded, packed, noTables, TablesAre};
+ghost use Rattle.reader.specs.Entries.{padded, packed, noTables, tablesStep, TablesAre};
 ghost use Rattle.reader.specs.Parts.{checked, roleTest, arrayTable, tablesWith, AritiesAre, ExtentsAre, ArrayIs, ArraysAre, withArray};
 ghost use Rattle.reader.specs.declared.fields.Place.the-variants as place;
 use crate::cursor::field_at;
@@ -330,10 +330,13 @@ fn arrays_of(s: &[u8], at: usize, operators: usize, arities: [u8; 16]) -> Tables
     }
 }
 
-// The tables of a program, beside the place of its first item.
+// The tables of a program, beside the place of its first item. 2 is asked first.
 pub fn tables_of(program: &[u8]) -> TablesRead
-    ensures { λ r. ⌜ TablesAre (tablesReader (now (program .entry)) 0) r ⌝ }
+    ensures { λ r. ⌜ TablesAre (tablesStep (now (program .entry))) r ⌝ }
 {
+    if 16384 < program.len() {
+        return no_tables(2, 0);
+    }
     match head_end(program, 0) {
         Place::Not(number, place) => no_tables(number, place),
         Place::Next(at) => match count_at(program, at, 6, 0, 16) {

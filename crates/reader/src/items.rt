@@ -7,8 +7,8 @@ ghost use Rattle.reader.specs.Syntax.{Items};
 ghost use Rattle.reader.specs.Grammar.{statementOf, loopOf, itemOf, nested, body};
 ghost use Rattle.reader.specs.Answers.{ended, placeSays, fieldSays};
 ghost use Rattle.reader.specs.Entries.{tablesIn, continued, itemsStep};
-use crate::expressions::expression_end;
-use crate::expressions::forms_end;
+use crate::expressions::expression_past;
+use crate::expressions::forms_past;
 use crate::fields::Field;
 use crate::fields::Place;
 use crate::fields::Signed;
@@ -39,9 +39,9 @@ fn statement_end(s: &[u8], at: usize, tables: &[usize; 115], loops: usize) -> Pl
             if role_of(tables, array) == 0 {
                 return Place::Not(13, at);
             }
-            match forms_end(s, next, loops, dimensions_of(tables, array)) {
+            match forms_past(s, next, loops, dimensions_of(tables, array)) {
                 Place::Not(number, place) => Place::Not(number, place),
-                Place::Next(source) => past(expression_end(s, source, tables, loops)),
+                Place::Next(source) => past(expression_past(s, source, tables, loops)),
             }
         }
     }
@@ -65,7 +65,7 @@ fn loop_head_end(s: &[u8], at: usize, loops: usize) -> Place
 
 // The items from `at` on, inside so many loops, where loops and guards may still nest `left` deep.
 fn run(s: &[u8], at: usize, tables: &[usize; 115], left: usize, loops: usize) -> Place
-    requires { ⌜ loops + left ≤ 16 ⌝ }
+    requires { ⌜ loops + left ≤ 8 ⌝ }
     ensures { λ r. ⌜ placeSays r ≡ ended (body (tablesIn (now (tables .entry))) (length (now (s .entry))) left loops (now (s .entry)) at) ⌝ }
 {
     let mut place = at;
@@ -88,7 +88,7 @@ fn run(s: &[u8], at: usize, tables: &[usize; 115], left: usize, loops: usize) ->
 
 // What follows an item's code, which stands at `at`.
 fn item(s: &[u8], at: usize, code: u8, tables: &[usize; 115], left: usize, loops: usize) -> Place
-    requires { ⌜ (loops + left ≤ 16) × (at < length (now s)) ⌝ }
+    requires { ⌜ (loops + left ≤ 8) × (at < length (now s)) ⌝ }
     ensures { λ r. ⌜ placeSays r ≡ ended (itemOf (tablesIn (now (tables .entry))) (length (now (s .entry))) (nested (tablesIn (now (tables .entry))) (length (now (s .entry))) left loops) loops code at (now (s .entry)) (at + 1)) ⌝ }
 {
     match code {
@@ -101,7 +101,7 @@ fn item(s: &[u8], at: usize, code: u8, tables: &[usize; 115], left: usize, loops
 
 // What follows the code of a loop (2) or a guard (3) at `at`: its forms, and a run of its own.
 fn around(s: &[u8], at: usize, code: u8, tables: &[usize; 115], left: usize, loops: usize) -> Place
-    requires { ⌜ (loops + left ≤ 16) × (at < length (now s)) ⌝ }
+    requires { ⌜ (loops + left ≤ 8) × (at < length (now s)) ⌝ }
     ensures { λ r. ⌜ placeSays r ≡ ended (nested (tablesIn (now (tables .entry))) (length (now (s .entry))) left loops code at (now (s .entry)) (at + 1)) ⌝ }
 {
     if left == 0 {
@@ -120,14 +120,15 @@ fn around(s: &[u8], at: usize, code: u8, tables: &[usize; 115], left: usize, loo
     }
 }
 
-// The end of a run of items, where loops and guards may still nest `left` deep. No file has more than 8 of either.
+// The end of a run of items inside so many loops, where loops and guards may still nest `left` deep. More than 8 together is 12.
 pub fn items_end(s: &[u8], at: usize, tables: &[usize; 115], left: usize, loops: usize) -> Place
     ensures { λ r. ⌜ placeSays r ≡ ended (itemsStep (tablesIn (now (tables .entry))) left loops (now (s .entry)) at) ⌝ }
 {
-    if left <= 8 {
-        if loops <= 8 {
-            return run(s, at, tables, left, loops);
-        }
+    if 8 < left {
+        return Place::Not(12, at);
     }
-    Place::Not(12, at)
+    if 8 - left < loops {
+        return Place::Not(12, at);
+    }
+    run(s, at, tables, left, loops)
 }

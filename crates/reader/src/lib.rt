@@ -25,23 +25,22 @@ pub enum Verdict {
 pub fn read_program(program: &[u8]) -> Verdict
     ensures { λ r. ⌜ verdictSays r ≡ said (readProgram (now (program .entry))) ⌝ }
 {
-    if 16384 < program.len() {
-        return Verdict::Refused(2, 0);
-    }
     let read = tables_of(program);
     let answer = read.answer;
-    let tables = flat(read.tables);
     match answer {
         Place::Not(number, place) => Verdict::Refused(number, place),
-        Place::Next(at) => match items_end(program, at, &tables, 8, 0) {
-            Place::Not(number, place) => Verdict::Refused(number, place),
-            Place::Next(end) => {
-                if end == program.len() {
-                    Verdict::Accepted
-                } else {
-                    Verdict::Refused(14, end)
+        Place::Next(at) => {
+            let tables = flat(read.tables);
+            match items_end(program, at, &tables, 8, 0) {
+                Place::Not(number, place) => Verdict::Refused(number, place),
+                Place::Next(end) => {
+                    if end == program.len() {
+                        Verdict::Accepted
+                    } else {
+                        Verdict::Refused(14, end)
+                    }
                 }
             }
-        },
+        }
     }
 }

@@ -15,12 +15,13 @@ use Rattle.reader.specs.Field.{Outcome, got, no}
 use Rattle.reader.specs.Syntax.{Items, Program}
 use Rattle.reader.specs.Grammar.{tables, body, items, itemOf, nested, program, readProgram}
 use Rattle.reader.specs.Answers.{placed}
-use Rattle.reader.specs.Entries.{unpacked, packed, bases, TablesAre, packedIn, viewed, tablesIn, flattened}
+use Rattle.reader.specs.Entries.{unpacked, packed, bases, TablesAre, packedIn, viewed, tablesIn, flattened, tablesStep}
 use Rattle.reader.specs.declared.tables.Tables.{Tables as Packed}
 use Rattle.reader.specs.declared.tables.TablesRead.{TablesRead}
 use Rattle.reader.specs.declared.fields.Place.{Place}
 use Rattle.reader.specs.declared.fields.Place.the-variants as place
 use Rattle.reader.proofs.Binds.{read-by, asked-by}
+use Rattle.reader.proofs.Depth.{tables-got}
 use Rattle.reader.proofs.Flattened.{Words, tables-flat, bases-flat}
 use Rattle.unroller.specs.Run.{Ran, ok, stop, Done, runs, nothing, runProgram}
 use Rattle.unroller.specs.Layout.{padded, tableWords, words, layout}
@@ -38,18 +39,20 @@ use Rattle.unroller.proofs.HeaderWords.{head-words}
 
 -- a program that was read, taken apart
 program-by : {P : Type 0} (s : List ℕ) {p : Program} {next : ℕ} → readProgram s ≡ got p next
-    → ((t : Tables) (first : ℕ) (js : Items) (end : ℕ) → tables s 0 ≡ got t first → body t (length s) 8 0 s first ≡ got js end → p ≡ record { tables = t; items = js } → P) → P
-unfolding readProgram program
-program-by {P} s {p} {next} e k = go (leb (length s) 16384) e
+    → ((t : Tables) (first : ℕ) (js : Items) (end : ℕ) → tablesStep s ≡ got t first → body t (length s) 8 0 s first ≡ got js end → p ≡ record { tables = t; items = js } → P) → P
+unfolding readProgram program tablesStep
+program-by {P} s {p} {next} e k = go (leb (length s) 16384) e k
   where
-    go : (z : Bool) → _≡_ {A = Outcome Program} (if z then program s 0 else no 2 0) (got p next) → P
-    go true r =
+    go : (z : Bool) → _≡_ {A = Outcome Program} (if z then program s 0 else no 2 0) (got p next)
+        → ((t : Tables) (first : ℕ) (js : Items) (end : ℕ) → _≡_ {A = Outcome Tables} (if z then tables s 0 else no 2 0) (got t first)
+        → body t (length s) 8 0 s first ≡ got js end → p ≡ record { tables = t; items = js } → P) → P
+    go true r k =
         read-by (tables s 0) _ r λ t first e1 r1.
         read-by (body t (length s) 8 0 s first) _ r1 λ js end e2 r2.
         asked-by 14 end (eqb end (length s)) s end _ r2 λ _ r3.
         let x : p ≡ record { tables = t; items = js } = cc in
         k t first js end e1 e2 x
-    go false r = absurd (let z : _≡_ {A = ℕ} 0 1 = cc in omega arith)
+    go false r k = absurd (let z : _≡_ {A = ℕ} 0 1 = cc in omega arith)
 
 -- the bases that are kept beside the tables
 bases-same : (n : ℕ) (xs : List Array) → bases n xs ≡ basesFrom n xs
@@ -74,7 +77,7 @@ flat-based t T numbers made holds few a h =
     ap (λ (l : List ℕ). getD (viewed l .bases) a 0) made ∙ bases-flat T a (omega arith) ∙ ap (λ (T : Packed). getD (T .bases) a 0) holds ∙ packed-based t a h
 
 -- the tables as the code has them
-module _ (s : List ℕ) (r : TablesRead) (are : TablesAre (tables s 0) r) (t : Tables) (m : ℕ) (e : tables s 0 ≡ got t m) where
+module _ (s : List ℕ) (r : TablesRead) (are : TablesAre (tablesStep s) r) (t : Tables) (m : ℕ) (e : tablesStep s ≡ got t m) where
   says : placed (r .answer) (unpacked (r .tables)) ≡ got t m
   says = are .says ∙ e
 
@@ -99,7 +102,7 @@ module _ (s : List ℕ) (r : TablesRead) (are : TablesAre (tables s 0) r) (t : T
     -- the header of a cleared list
     module _ (list list₁ : List ℕ) (long : 32768 ≤ length list) (zero-list : list ≡ cleared list) (h : list₁ ≡ sets list 0 (headWords (r .tables))) where
       parts : TablesParts t
-      parts = tables-allowed s 0 e
+      parts = tables-allowed s 0 (tables-got s e .1)
 
       lies : list₁ ≡ layout (record { tables = t; updates = [] }) (length list)
       unfolding layout words
@@ -146,7 +149,7 @@ module _ (t : Tables) (end : ℕ) (list list₂ flags₂ : List ℕ) (same-lengt
   told-no (ok d) k q list₃ e w = absurd w
   told-no (stop a b) k q list₃ e w = (ap₂ (λ (x y : ℕ). unrolledSays (unrolled.Refused x y)) (w .0) (w .1), e ∙ ap (λ (n : ℕ). replicate n 0) same-length)
 
-module _ (s list : List ℕ) (r : TablesRead) (are : TablesAre (tables s 0) r) where
+module _ (s list : List ℕ) (r : TablesRead) (are : TablesAre (tablesStep s) r) where
   pub run-not : (k q : ℕ) → r .answer ≡ place.Not k q → (list′ : List ℕ) → Unrolls s list (unrolled.Refused k q) list′
   unfolding Unrolls
   run-not k q c list′ p next e z = program-by s e λ t m js end e1 e2 x. absurd (read-not s r are t m e1 k q c)
@@ -154,13 +157,13 @@ module _ (s list : List ℕ) (r : TablesRead) (are : TablesAre (tables s 0) r) w
   module _ (long : 32768 ≤ length list) (first : ℕ) (c : r .answer ≡ place.Next first) (numbers : List ℕ) (made : numbers ≡ flattened (r .tables)) (small : Words 48 (r .tables .extents)) (list₁ list₂ flags₂ : List ℕ) (h : list₁ ≡ sets list 0 (headWords (r .tables)))
       (same-length : length list₂ ≡ length list) (w₀ : Walk)
       (ran : RunsItems s first (tablesIn numbers) (viewed numbers .bases) 8 0 (replicate 8 (pos 0)) (record { rounds = 0; nodes = 0; updates = 0 }) list₁ (replicate 2048 0) w₀ list₂ flags₂) where
-    walked : (t : Tables) (m : ℕ) (js : Items) (end : ℕ) → tables s 0 ≡ got t m → body t (length s) 8 0 s m ≡ got js end → list ≡ cleared list
+    walked : (t : Tables) (m : ℕ) (js : Items) (end : ℕ) → tablesStep s ≡ got t m → body t (length s) 8 0 s m ≡ got js end → list ≡ cleared list
         → Walked t end (runs js t [] nothing) w₀ list₂ flags₂
     unfolding RunsItems body
     walked t m js end e1 e2 z =
         let x = ap tablesIn made ∙ tables-flat (r .tables) small ∙ read-tables s r are t m e1 first c in
         let y = read-first s r are t m e1 first c in
-        let b = flat-based t (r .tables) numbers made (holds s r are t m e1) (within-high 1 16 (length (t .arrays)) (tables-allowed s 0 e1 .count)) in
+        let b = flat-based t (r .tables) numbers made (holds s r are t m e1) (within-high 1 16 (length (t .arrays)) (tables-allowed s 0 (tables-got s e1 .1) .count)) in
         let v : RunsItems s first t (viewed numbers .bases) 8 0 (replicate 8 (pos 0)) (record { rounds = 0; nodes = 0; updates = 0 }) list₁ (replicate 2048 0) w₀ list₂ flags₂ =
         subst (λ (u : Tables). RunsItems s first u (viewed numbers .bases) 8 0 (replicate 8 (pos 0)) (record { rounds = 0; nodes = 0; updates = 0 }) list₁ (replicate 2048 0) w₀ list₂ flags₂) x ran in
         v js end (length s) nothing (ap (λ (at : ℕ). body t (length s) 8 0 s at) y ∙ e2) (omega arith) refl b (begins s r are t m e1 first c list list₁ long z h)

@@ -19,12 +19,14 @@ use Rattle.reader.specs.Syntax.Expr.{read, apply, literal, named}
 use Rattle.reader.specs.Syntax.Exprs.{none, more}
 use Rattle.reader.specs.Grammar.{form, subscripts, index, applied, expression, statementOf}
 use Rattle.reader.specs.Answers.{through, ended, fieldSays, placeSays}
+use Rattle.reader.specs.Entries.{formsStep, expressionStep}
 use Rattle.reader.specs.declared.fields.Field.{Field}
 use Rattle.reader.specs.declared.fields.Field.the-variants as field
 use Rattle.reader.specs.declared.fields.Place.{Place}
 use Rattle.reader.specs.declared.fields.Place.the-variants as place
 use Rattle.reader.proofs.Binds.{read-by, asked-by, got-is}
 use Rattle.reader.proofs.Steps.{field-got, field-no}
+use Rattle.reader.proofs.Depth.{forms-shallow, expression-shallow}
 use Rattle.reader.proofs.Flattened.{sets-append}
 use Rattle.reader.proofs.Forward.{held-got, index-held, Counted, nodes-held}
 use Rattle.unroller.specs.Run.{Ran, ok, stop, _>>=_, ask, fits32, valueAt, worked, inExtent, cellFrom, cellAt, tree, trees, readable, Done, update, run}
@@ -60,35 +62,35 @@ many-more a b h = go (ltb (8192 - a) b) refl
 
 -- the expression behind a target's subscripts
 module _ (s : List ℕ) (at : ℕ) (t : Tables) (loops a d : ℕ) (w : d ≡ length (arrayAt (t .arrays) a .extents))
-    (m : Place) (says : placeSays m ≡ ended (times [] _∷_ (form loops) d s at)) where
-  said : placeSays m ≡ ended (subscripts t loops a s at)
+    (m : Place) (says : placeSays m ≡ ended (formsStep loops d s at)) where
+  said : loops ≤ 8 → placeSays m ≡ ended (subscripts t loops a s at)
   unfolding subscripts
-  said = says ∙ ap (λ (n : ℕ). ended (times [] _∷_ (form loops) n s at)) w
+  said l = says ∙ ap (λ (o : Outcome (List Form)). ended o) (forms-shallow s at loops d l ∙ ap (λ (n : ℕ). times [] _∷_ (form loops) n s at) w)
 
   pub source-no : (k q : ℕ) → m ≡ place.Not k q → (r : Field) → Sources s at t loops a r
   unfolding Sources through
-  source-no k q x r fs source e next g h =
-      let z : _≡_ {A = Outcome ℕ} (no k q) (got 0 source) = sym (ap placeSays x) ∙ said ∙ ap (λ (o : Outcome (List Form)). ended o) g in
+  source-no k q x r fs source e next g h l =
+      let z : _≡_ {A = Outcome ℕ} (no k q) (got 0 source) = sym (ap placeSays x) ∙ said l ∙ ap (λ (o : Outcome (List Form)). ended o) g in
       absurd (let z : _≡_ {A = ℕ} 0 1 = cc in omega arith)
 
-  module _ (to : ℕ) (x : m ≡ place.Next to) (n : Field) (tells : fieldSays n ≡ through count (expression t loops s to)) where
-    counted : (fs : List Form) (source : ℕ) (e : Expr) (next : ℕ) → subscripts t loops a s at ≡ got fs source → expression t loops s source ≡ got e next → (to ≡ source) × (fieldSays n ≡ got (count e) next)
+  module _ (to : ℕ) (x : m ≡ place.Next to) (n : Field) (tells : fieldSays n ≡ through count (expressionStep t loops s to)) where
+    counted : (fs : List Form) (source : ℕ) (e : Expr) (next : ℕ) → subscripts t loops a s at ≡ got fs source → expression t loops s source ≡ got e next → loops ≤ 8 → (to ≡ source) × (fieldSays n ≡ got (count e) next)
     unfolding through
-    counted fs source e next g h =
-        let z : _≡_ {A = Outcome ℕ} (got 0 to) (got 0 source) = sym (ap placeSays x) ∙ said ∙ ap (λ (o : Outcome (List Form)). ended o) g in
+    counted fs source e next g h l =
+        let z : _≡_ {A = Outcome ℕ} (got 0 to) (got 0 source) = sym (ap placeSays x) ∙ said l ∙ ap (λ (o : Outcome (List Form)). ended o) g in
         let y : to ≡ source = cc in
-        (y, tells ∙ ap (λ (o : Outcome Expr). through count o) (ap (expression t loops s) y ∙ h))
+        (y, tells ∙ ap (λ (o : Outcome Expr). through count o) (expression-shallow s to t loops l ∙ ap (expression t loops s) y ∙ h))
 
     pub behind-no : (k q : ℕ) → n ≡ field.Not k q → (r : Field) → Sources s at t loops a r
     unfolding Sources
-    behind-no k q y r fs source e next g h =
-        let z : _≡_ {A = Outcome ℕ} (no k q) (got (count e) next) = sym (ap fieldSays y) ∙ counted fs source e next g h .1 in
+    behind-no k q y r fs source e next g h l =
+        let z : _≡_ {A = Outcome ℕ} (no k q) (got (count e) next) = sym (ap fieldSays y) ∙ counted fs source e next g h l .1 in
         absurd (let z : _≡_ {A = ℕ} 0 1 = cc in omega arith)
 
     pub behind-is : (c end : ℕ) → n ≡ field.Is c end → Sources s at t loops a (field.Is c to)
     unfolding Sources
-    behind-is c end y fs source e next g h =
-        let f = counted fs source e next g h in
+    behind-is c end y fs source e next g h l =
+        let f = counted fs source e next g h l in
         let z : _≡_ {A = Outcome ℕ} (got c end) (got (count e) next) = sym (ap fieldSays y) ∙ f .1 in
         let v : c ≡ count e = cc in
         ap₂ (λ (i j : ℕ). field.Is i j) v (f .0)
@@ -367,7 +369,7 @@ module _ (s : List ℕ) (at : ℕ) (t : Tables) (loops a n : ℕ) where
   -- no expression has more nodes than the file has bytes
   pub few-bytes : ltb 8192 (n + length s) ≡ false → FewNodes s at t loops a n true
   unfolding FewNodes expression
-  few-bytes h fs source e next g x =
+  few-bytes h fs source e next g x _ =
       let v = held-got (Counted s t loops source) (nodes-held s t loops 12 source) x in
       let k = ltb-false 8192 (n + length s) h in
       sym (le-leb (n + count e) 8192 (omega (arith, v .0, v .1)))
@@ -375,12 +377,12 @@ module _ (s : List ℕ) (at : ℕ) (t : Tables) (loops a n : ℕ) where
   module _ (m : Field) (tells : Sources s at t loops a m) where
     pub few-none : (k q : ℕ) → m ≡ field.Not k q → (r : Bool) → FewNodes s at t loops a n r
     unfolding FewNodes Sources
-    few-none k q y r fs source e next g x = let v = tells fs source e next g x in absurd (let z : _≡_ {A = ℕ} 0 1 = cc in omega arith)
+    few-none k q y r fs source e next g x l = let v = tells fs source e next g x l in absurd (let z : _≡_ {A = ℕ} 0 1 = cc in omega arith)
 
     pub few-told : (c source : ℕ) → m ≡ field.Is c source → (b : Bool) → b ≡ ltb 8192 (n + c) → FewNodes s at t loops a n (not b)
     unfolding FewNodes Sources
-    few-told c source1 y b w fs source e next g x =
-        let v = tells fs source e next g x in
+    few-told c source1 y b w fs source e next g x l =
+        let v = tells fs source e next g x l in
         let z : c ≡ count e = cc in
         go b (w ∙ ap (λ (k : ℕ). ltb 8192 (n + k)) z)
       where
@@ -440,7 +442,7 @@ module _ (s : List ℕ) (at : ℕ) (t : Tables) (bases : List ℕ) (loops : ℕ)
       module _ (b : Bool) (tells : FewNodes s target t loops a (progress .nodes) b) where
         told : (fs : List Form) (source : ℕ) (e : Expr) (next : ℕ) → Stated s target source t loops is a fs e next → b ≡ leb (progress .nodes + count e) 8192
         unfolding FewNodes
-        told fs source e next st = tells fs source e next (st .target) (st .behind)
+        told fs source e next st = tells fs source e next (st .target) (st .behind) (st .few-loops)
 
         pub asked-20 : b ≡ false → progress .updates ≤ 2047 → r ≡ walk.No 20 at → Runs
         unfolding update

@@ -248,7 +248,7 @@ module _ (s : List ℕ) (t : Tables) (bases : List ℕ) (left less loops : ℕ) 
     guard-passes z u i next d e b8 l8 based h = guard-by s t left less loops at fewer e λ g mid js e1 e2 x.
         rw x (value-step t (worked at (take loops is) g) (guarded js t (take loops is) d) v to mid next r l f (valued-is g mid at e1 (omega arith) l8)
         λ q. subst (λ (m : Ran Done). Walked t next m r l f) (sym (guarded-passes js t (take loops is) d v z))
-        (subst (λ (r : Walk). Walked t next (ok d) r l f) (sym (u js next (ap (body t (length s) less loops s) q ∙ e2) (omega arith) (omega arith))) (refl, h)))
+        (subst (λ (r : Walk). Walked t next (ok d) r l f) (sym (u js next (ap (body t (length s) less loops s) q ∙ e2) (omega arith))) (refl, h)))
 
 -- ---- loops
 rounded : ℕ → ℤ → Items → Tables → List ℤ → Done → Ends → Ran Done
@@ -311,7 +311,7 @@ module _ (s : List ℕ) (at from : ℕ) (t : Tables) (bases : List ℕ) (left lo
     unfolding RunsRounds Passes rounds
     rounds-none r g u js next d e b8 l8 found based h =
         rw (indices-none most step last index g)
-        (subst (λ (r : Walk). Walked t next (ok d) r l f) (sym (u js next e (omega arith) (omega arith))) (refl, h))
+        (subst (λ (r : Walk). Walked t next (ok d) r l f) (sym (u js next e (omega arith))) (refl, h))
 
     module _ (i : ℤ) (rest : List ℤ) (more : indices most step last index ≡ i ∷ rest) where
       pub rounds-stop : (r₀ : Walk) (k q : ℕ) (l′ f′ l″ f″ : List ℕ) → r₀ ≡ walk.No k q → RunsRound s at from t bases left loops is i p l f r₀ l′ f′

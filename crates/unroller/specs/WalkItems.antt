@@ -64,7 +64,7 @@ Moves (No k) = Unit {0}
 
 -- The items from `at` on are passed over, and nothing has changed.
 unfoldable pub Passes : List ℕ → ℕ → Tables → ℕ → ℕ → Progress → Walk → Type 0
-Passes s at t left loops p r = (js : Items) (next : ℕ) → body t (length s) left loops s at ≡ got js next → left ≤ 8 → loops ≤ 8 → r ≡ on next p
+Passes s at t left loops p r = (js : Items) (next : ℕ) → body t (length s) left loops s at ≡ got js next → loops + left ≤ 8 → r ≡ on next p
 
 -- The loop or guard whose code stands at `at`.
 unfoldable pub RunsNested : List ℕ → ℕ → ℕ → Tables → List ℕ → ℕ → ℕ → List ℤ → Progress → List ℕ → List ℕ → Walk → List ℕ → List ℕ → Type 0

@@ -197,13 +197,13 @@ WritesUpdate s a at t loops is list to r list′ =
 unfoldable pub Sources : List ℕ → ℕ → Tables → ℕ → ℕ → Field → Type 0
 Sources s at t loops a r =
     (fs : List Form) (source : ℕ) (e : Expr) (next : ℕ) → subscripts t loops a s at ≡ got fs source → expression t loops s source ≡ got e next
-    → r ≡ field.Is (count e) source
+    → loops ≤ 8 → r ≡ field.Is (count e) source
 
 -- question 20: n nodes before it, and those of that expression
 unfoldable pub FewNodes : List ℕ → ℕ → Tables → ℕ → ℕ → ℕ → Bool → Type 0
 FewNodes s at t loops a n r =
     (fs : List Form) (source : ℕ) (e : Expr) (next : ℕ) → subscripts t loops a s at ≡ got fs source → expression t loops s source ≡ got e next
-    → r ≡ leb (n + count e) 8192
+    → loops ≤ 8 → r ≡ leb (n + count e) 8192
 
 -- the statement whose code stands at p, where 19 and 20 had a yes
 unfoldable pub RunsUpdate : List ℕ → ℕ → ℕ → ℕ → Tables → List ℕ → ℕ → List ℤ → Progress → List ℕ → List ℕ → Walk → List ℕ → List ℕ → Type 0

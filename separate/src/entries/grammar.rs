@@ -4,7 +4,7 @@ use super::fields::{field, i16, i8, index, step, Outcome};
 use super::numbers::Tables;
 use crate::limits::{ITEM_NESTING, OPERATOR_NESTING};
 use crate::read::code;
-use crate::reply::Question;
+use crate::reply::{Question, Refusal};
 
 #[derive(Clone, Debug, Default, PartialEq, Eq)]
 pub struct Form {
@@ -24,14 +24,26 @@ fn form(loops: usize, s: &[u8], at: usize) -> Outcome<Form> {
     Ok((Form { constant, coefficients }, at))
 }
 
-/// No file has more than eight loops around a form.
+/// No file nests deeper, so a step that any caller may make asks this first,
+/// at the place where it begins.
+fn shallow(depth: u128, at: usize) -> Result<(), Refusal> {
+    Question::Nesting.ask(depth <= ITEM_NESTING as u128, at)
+}
+
+/// Within any number of loops.
 pub fn form_step(loops: usize, s: &[u8], at: usize) -> Outcome<Form> {
-    Question::Nesting.ask(loops <= ITEM_NESTING, at)?;
+    shallow(loops as u128, at)?;
     form(loops, s, at)
 }
 
+/// Within any number of loops; of no form too.
+pub fn forms_step(loops: usize, count: usize, s: &[u8], at: usize) -> Outcome<()> {
+    shallow(loops as u128, at)?;
+    forms(loops, count, s, at)
+}
+
 /// So many forms in a row.
-pub fn forms(loops: usize, count: usize, s: &[u8], mut at: usize) -> Outcome<()> {
+fn forms(loops: usize, count: usize, s: &[u8], mut at: usize) -> Outcome<()> {
     for _ in 0..count {
         (_, at) = form(loops, s, at)?;
     }
@@ -44,8 +56,14 @@ pub struct Grammar<'a> {
 }
 
 impl Grammar<'_> {
+    /// Within any number of loops.
+    pub fn expression_step(&self, at: usize, loops: usize) -> Outcome<usize> {
+        shallow(loops as u128, at)?;
+        self.expression(at, loops)
+    }
+
     /// The number of an expression's nodes.
-    pub fn expression(&self, at: usize, loops: usize) -> Outcome<usize> {
+    fn expression(&self, at: usize, loops: usize) -> Outcome<usize> {
         self.node(at, loops, OPERATOR_NESTING)
     }
 
@@ -83,10 +101,9 @@ impl Grammar<'_> {
         forms(loops, self.tables.array(array).extents.len(), self.s, at)
     }
 
-    /// Items within so many loops, in which loops and guards may nest so deep;
-    /// no file has more than eight of either.
+    /// Items within so many loops, in which loops and guards may nest so deep.
     pub fn items_step(&self, at: usize, left: usize, loops: usize) -> Outcome<()> {
-        Question::Nesting.ask(left <= ITEM_NESTING && loops <= ITEM_NESTING, at)?;
+        shallow(loops as u128 + left as u128, at)?;
         self.items(at, left, loops)
     }
 

@@ -150,7 +150,7 @@ impl Line {
             15 => self.say(tables.array(a).extents.get(b).copied().unwrap_or(0)),
             16 => self.say(tables.bases.get(a).copied().unwrap_or(0)),
             17 => self.say_all(narrowed(row)),
-            18 => self.field(Grammar { s, tables: &tables }.expression(a, b)),
+            18 => self.field(Grammar { s, tables: &tables }.expression_step(a, b)),
             _ => self.place(Grammar { s, tables: &tables }.items_step(a, b, c)),
         }
     }
@@ -158,7 +158,7 @@ impl Line {
     fn part(&mut self, entry: u8, [a, b, c, ..]: [usize; 6], s: &[u8]) {
         match entry {
             20 => self.form(grammar::form_step(b, s, a)),
-            21 => self.place(grammar::forms(b, c, s, a)),
+            21 => self.place(grammar::forms_step(b, c, s, a)),
             22 => match read_tables(s) {
                 Ok((tables, next)) => {
                     self.place(Ok(((), next)));

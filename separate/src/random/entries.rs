@@ -3,7 +3,7 @@
 
 use super::{Pairs, Random};
 use crate::entries::numbers::{flat, Row, ROW};
-use crate::limits::{CELL_WORDS, LIST_WORDS, TERM_WORDS};
+use crate::limits::{CELL_WORDS, LIST_WORDS, PROGRAM_BYTES, TERM_WORDS};
 use crate::read::read_tables;
 
 /// A record is no longer.
@@ -232,21 +232,50 @@ impl Records {
         self.damage(&mut bytes);
         let arguments = if entry == 18 {
             let at = self.place(&bytes, &[0x10, 0x11, 0x12, 0x13]);
-            [at, self.small(3), 0, 0, 0, 0]
+            let most = if self.random.chance(75) { 3 } else { 9 };
+            [at, self.small(most), 0, 0, 0, 0]
         } else {
             match first {
                 Ok(first) if self.random.chance(50) => [first, 8, 0, 0, 0, 0],
                 _ => {
                     let at = self.place(&bytes, &[0, 1, 2, 3]);
-                    [at, self.small(9), self.small(3), 0, 0, 0]
+                    let [left, loops] = self.depths();
+                    [at, left, loops, 0, 0, 0]
                 }
             }
         };
         record(entry, arguments, &[row.as_flattened(), &bytes].concat())
     }
 
+    /// How deep items may still nest, and the loops around them: together
+    /// at most eight, or around that, or anything.
+    fn depths(&mut self) -> [usize; 2] {
+        match self.random.below(10) {
+            0..=4 => {
+                let loops = self.random.below(9);
+                [self.random.below(9 - loops), loops]
+            }
+            5..=7 => {
+                let most = usize::MAX;
+                let around =
+                    [[8, 8], [8, 1], [8, 0], [3, 6], [3, 5], [0, 8], [0, 9], [9, 0], [most, 9]];
+                *self.random.pick(&around)
+            }
+            _ => [self.small(9), self.small(3)],
+        }
+    }
+
+    /// The start of a program in as many bytes as one may have, a few less or
+    /// more.
+    fn long(&mut self) -> Vec<u8> {
+        let mut bytes = self.program();
+        bytes.resize(PROGRAM_BYTES - 1 + self.random.below(4), 0);
+        bytes
+    }
+
     fn part(&mut self, entry: u8) -> Vec<u8> {
-        let bytes = self.bytes();
+        let whole = entry >= 22;
+        let bytes = if whole && self.random.chance(4) { self.long() } else { self.bytes() };
         let (at, loops) = (self.number(bytes.len()), self.small(9));
         let count = self.small(6);
         record(entry, [at, loops, count, 0, 0, 0], &bytes)

@@ -24,8 +24,8 @@ enum-known-array c = search needs
 dimensions-of-requires : tie.Need-dimensions-of-requires
 dimensions-of-requires c κs = search needs
 
-forms-end-requires : tie.Need-forms-end-requires
-forms-end-requires c κs = search needs
+forms-past-requires : tie.Need-forms-past-requires
+forms-past-requires c κs = search needs
 
 one-node-requires : tie.Need-one-node-requires
 one-node-requires c κs = search needs
@@ -35,7 +35,7 @@ unfolding readOf
 returns c = stop (through count) _ _ (index-no _ _ _ _ (c .before .before .before .before .array-count .ensures) (c .before .before .before .index-at .ensures) (c .before .number .given .1)) (refused _ refl)
 
 returns-2 : tie.Need-returns-2
-returns-2 c = read-all _ _ _ _ (c .before .forms-end .result) (index-got _ _ _ _ (c .before .before .before .before .before .before .before .array-count .ensures) (c .before .before .before .before .before .before .index-at .ensures) (c .before .before .before .before .array .given .1)) (c .before .before .dimensions-of .ensures) (c .before .forms-end .ensures) (c .one-node .ensures)
+returns-2 c = read-all _ _ _ _ (c .before .forms-past .result) (index-got _ _ _ _ (c .before .before .before .before .before .before .before .array-count .ensures) (c .before .before .before .before .before .before .index-at .ensures) (c .before .before .before .before .array .given .1)) (c .before .before .dimensions-of .ensures) (c .before .forms-past .ensures) (c .one-node .ensures)
 
 pub read-end-spec : {M : Type 1} → statement M
 read-end-spec =
@@ -46,7 +46,7 @@ read-end-spec =
     enum-known-number
     enum-known-array
     dimensions-of-requires
-    forms-end-requires
+    forms-past-requires
     one-node-requires
     returns
     returns-2)

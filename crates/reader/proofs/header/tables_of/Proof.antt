@@ -1,21 +1,20 @@
 use native.Mathlib.Omega.{arith}
 use mathlib.Core.Path.{_≡_, refl, sym, ap, _∙_}
-use Prim.Native.Nat.{ℕ, _+_, _-_, _*_, _<_, _≤_}
-use lib.ListN.{length, getD}
-use mathlib.Core.List.{List, [], _∷_, _++_}
-use mathlib.Core.Bool.{true, false}
-use lib.ListN.{set, length-append}
+use mathlib.Core.Bool.{true}
 use Rattle.model.specs.Test.{within}
-use Rattle.model.specs.Tables.{Array, cells, local}
-use Rattle.reader.specs.Field.{Outcome, got, no, times}
-use Rattle.reader.specs.Entries.{padded, packed, unpacked}
 use Rattle.reader.proofs.Forward.{held-got}
 use Rattle.reader.proofs.Steps.{field-got, field-no, ended-got, ended-no}
+use Rattle.reader.proofs.Depth.{tables-short, tables-long}
 use Rattle.reader.proofs.Heads.{within-is, checked-held, arities-is, arities-not, operators-no, operators-got, tables-head, tables-operators, tables-with, tables-refused}
-use Rattle.reader.specs.Grammar.{tables}
 use borrow.Author.Needs.{needs}
 use Rattle.reader.proofs.header.tables_of.Statement.{statement}
 use Rattle.reader.proofs.header.tables_of.Tie as tie
+
+no-tables-requires : tie.Need-no-tables-requires
+no-tables-requires c κs = search needs
+
+returns : tie.Need-returns
+returns c = let h = c .before .if1 .taken in tables-refused _ (tables-long _ (omega arith)) (c .no-tables .ensures .0) (c .no-tables .ensures .1)
 
 head-end-requires : tie.Need-head-end-requires
 head-end-requires c κs = search needs
@@ -23,8 +22,8 @@ head-end-requires c κs = search needs
 enum-known-number : tie.Need-enum-known-number
 enum-known-number c = search needs
 
-no-tables-requires : tie.Need-no-tables-requires
-no-tables-requires c κs = search needs
+no-tables-requires-2 : tie.Need-no-tables-requires-2
+no-tables-requires-2 c κs = search needs
 
 enum-known-at : tie.Need-enum-known-at
 enum-known-at c = search needs
@@ -35,8 +34,8 @@ count-at-requires c κs = search needs
 enum-known-number-2 : tie.Need-enum-known-number-2
 enum-known-number-2 c = search needs
 
-no-tables-requires-2 : tie.Need-no-tables-requires-2
-no-tables-requires-2 c κs = search needs
+no-tables-requires-3 : tie.Need-no-tables-requires-3
+no-tables-requires-3 c κs = search needs
 
 enum-known-n : tie.Need-enum-known-n
 enum-known-n c = search needs
@@ -47,8 +46,8 @@ arities-at-requires c κs = within-is 0 16 (c .before .n .given .0 .0) (held-got
 enum-known-answer : tie.Need-enum-known-answer
 enum-known-answer c = search needs
 
-no-tables-requires-3 : tie.Need-no-tables-requires-3
-no-tables-requires-3 c κs = search needs
+no-tables-requires-4 : tie.Need-no-tables-requires-4
+no-tables-requires-4 c κs = search needs
 
 enum-known-answer-2 : tie.Need-enum-known-answer-2
 enum-known-answer-2 c = search needs
@@ -56,41 +55,43 @@ enum-known-answer-2 c = search needs
 arrays-of-requires : tie.Need-arrays-of-requires
 arrays-of-requires c κs = search needs
 
-returns : tie.Need-returns
-returns c = tables-refused _ (tables-head _ _ (ended-no _ (c .before .before .before .before .head-end .ensures) (c .before .before .number .given .1))) (c .no-tables .ensures .0) (c .no-tables .ensures .1)
-
 returns-2 : tie.Need-returns-2
-returns-2 c = tables-refused _ (tables-operators _ _ (ended-got _ (c .before .before .before .before .before .before .before .before .head-end .ensures) (c .before .before .before .before .before .before .at .given .1) .1) (operators-no _ _ (field-no (c .before .before .before .before .count-at .ensures) (c .before .before .number2 .given .1)))) (c .no-tables2 .ensures .0) (c .no-tables2 .ensures .1)
+returns-2 c = let h = c .before .before .before .before .before .if1 .left in tables-refused _ (tables-short _ (omega arith) ∙ tables-head _ _ (ended-no _ (c .before .before .before .before .head-end .ensures) (c .before .before .number .given .1))) (c .no-tables2 .ensures .0) (c .no-tables2 .ensures .1)
 
 returns-3 : tie.Need-returns-3
-returns-3 c = tables-refused _ (tables-operators _ _ (ended-got _ (c .before .before .before .before .before .before .before .before .before .before .before .before .before .head-end .ensures) (c .before .before .before .before .before .before .before .before .before .before .before .at .given .1) .1)
-    (operators-got _ _ (field-got (c .before .before .before .before .before .before .before .before .before .count-at .ensures) (c .before .before .before .before .before .before .before .n .given .1)) ∙ arities-not (c .before .before .before .before .before .before .before .n .given .0 .0) _ (c .before .before .before .before .before .arities-at .result) (c .before .before .before .before .before .arities-at .ensures) (c .before .before .answer .given .1)))
-    (c .no-tables3 .ensures .0) (c .no-tables3 .ensures .1)
+returns-3 c = let h = c .before .before .before .before .before .before .before .before .before .if1 .left in tables-refused _ (tables-short _ (omega arith) ∙ tables-operators _ _ (ended-got _ (c .before .before .before .before .before .before .before .before .head-end .ensures) (c .before .before .before .before .before .before .at .given .1) .1) (operators-no _ _ (field-no (c .before .before .before .before .count-at .ensures) (c .before .before .number2 .given .1)))) (c .no-tables3 .ensures .0) (c .no-tables3 .ensures .1)
 
 returns-4 : tie.Need-returns-4
-returns-4 c = let w = within-is 0 16 (c .before .before .before .before .before .before .before .n .given .0 .0) (held-got (λ x n. within 0 16 x ≡ true) (checked-held _ _ _ _) (field-got (c .before .before .before .before .before .before .before .before .before .count-at .ensures) (c .before .before .before .before .before .before .before .n .given .1))) in
+returns-4 c = let h = c .before .before .before .before .before .before .before .before .before .before .before .before .before .before .if1 .left in tables-refused _ (tables-short _ (omega arith) ∙ tables-operators _ _ (ended-got _ (c .before .before .before .before .before .before .before .before .before .before .before .before .before .head-end .ensures) (c .before .before .before .before .before .before .before .before .before .before .before .at .given .1) .1)
+    (operators-got _ _ (field-got (c .before .before .before .before .before .before .before .before .before .count-at .ensures) (c .before .before .before .before .before .before .before .n .given .1)) ∙ arities-not (c .before .before .before .before .before .before .before .n .given .0 .0) _ (c .before .before .before .before .before .arities-at .result) (c .before .before .before .before .before .arities-at .ensures) (c .before .before .answer .given .1)))
+    (c .no-tables4 .ensures .0) (c .no-tables4 .ensures .1)
+
+returns-5 : tie.Need-returns-5
+returns-5 c = let w = within-is 0 16 (c .before .before .before .before .before .before .before .n .given .0 .0) (held-got (λ x n. within 0 16 x ≡ true) (checked-held _ _ _ _) (field-got (c .before .before .before .before .before .before .before .before .before .count-at .ensures) (c .before .before .before .before .before .before .before .n .given .1))) in
     let v = arities-is (c .before .before .before .before .before .before .before .n .given .0 .0) _ (c .before .before .before .before .before .arities-at .result) (c .before .before .before .before .before .arities-at .ensures) (c .before .before .answer2 .given .1) in
-    rw (tables-with _ _ (ended-got _ (c .before .before .before .before .before .before .before .before .before .before .before .before .before .head-end .ensures) (c .before .before .before .before .before .before .before .before .before .before .before .at .given .1) .1) (operators-got _ _ (field-got (c .before .before .before .before .before .before .before .before .before .count-at .ensures) (c .before .before .before .before .before .before .before .n .given .1)) ∙ v .1))
+    let h = c .before .before .before .before .before .before .before .before .before .before .before .before .before .before .if1 .left in rw (tables-short _ (omega arith) ∙ tables-with _ _ (ended-got _ (c .before .before .before .before .before .before .before .before .before .before .before .before .before .head-end .ensures) (c .before .before .before .before .before .before .before .before .before .before .before .at .given .1) .1) (operators-got _ _ (field-got (c .before .before .before .before .before .before .before .before .before .count-at .ensures) (c .before .before .before .before .before .before .before .n .given .1)) ∙ v .1))
     (c .arrays-of .ensures (v .0) (v .3) (omega (arith, v .3, w .1)) (v .2))
 
 pub tables-of-spec : {M : Type 1} → statement M
 tables-of-spec =
     tie.close
     (tie.spec
+    no-tables-requires
+    returns
     head-end-requires
     enum-known-number
-    no-tables-requires
+    no-tables-requires-2
     enum-known-at
     count-at-requires
     enum-known-number-2
-    no-tables-requires-2
+    no-tables-requires-3
     enum-known-n
     arities-at-requires
     enum-known-answer
-    no-tables-requires-3
+    no-tables-requires-4
     enum-known-answer-2
     arrays-of-requires
-    returns
     returns-2
     returns-3
-    returns-4)
+    returns-4
+    returns-5)

@@ -29,8 +29,8 @@ returns c = statement-in _ _ _ _ (index-got _ _ _ _ (c .before .before .before .
 dimensions-of-requires : tie.Need-dimensions-of-requires
 dimensions-of-requires c κs = search needs
 
-forms-end-requires : tie.Need-forms-end-requires
-forms-end-requires c κs = search needs
+forms-past-requires : tie.Need-forms-past-requires
+forms-past-requires c κs = search needs
 
 enum-known-number-2 : tie.Need-enum-known-number-2
 enum-known-number-2 c = search needs
@@ -38,8 +38,8 @@ enum-known-number-2 c = search needs
 enum-known-source : tie.Need-enum-known-source
 enum-known-source c = search needs
 
-expression-end-requires : tie.Need-expression-end-requires
-expression-end-requires c κs = search needs
+expression-past-requires : tie.Need-expression-past-requires
+expression-past-requires c κs = search needs
 
 past-requires : tie.Need-past-requires
 past-requires c κs = search needs
@@ -49,10 +49,10 @@ unfolding statementOf
 returns-2 c = λ p. stop ended _ _ (index-no _ _ _ _ (c .before .before .before .before .array-count .ensures) (c .before .before .before .index-at .ensures) (c .before .number .given .1)) (refused _ refl)
 
 returns-3 : tie.Need-returns-3
-returns-3 c = statement-cut _ _ _ _ (index-got _ _ _ _ (c .before .before .before .before .before .before .before .before .before .before .before .array-count .ensures) (c .before .before .before .before .before .before .before .before .before .before .index-at .ensures) (c .before .before .before .before .before .before .before .before .array .given .1)) (λ z. c .before .before .before .before .before .if1 .left (c .before .before .before .before .before .before .role-of .ensures ∙ z)) (c .before .before .before .before .dimensions-of .ensures) (c .before .before .before .forms-end .result) (c .before .before .before .forms-end .ensures) (c .before .number2 .given .1)
+returns-3 c = statement-cut _ _ _ _ (index-got _ _ _ _ (c .before .before .before .before .before .before .before .before .before .before .before .array-count .ensures) (c .before .before .before .before .before .before .before .before .before .before .index-at .ensures) (c .before .before .before .before .before .before .before .before .array .given .1)) (λ z. c .before .before .before .before .before .if1 .left (c .before .before .before .before .before .before .role-of .ensures ∙ z)) (c .before .before .before .before .dimensions-of .ensures) (c .before .before .before .forms-past .result) (c .before .before .before .forms-past .ensures) (c .before .number2 .given .1)
 
 returns-4 : tie.Need-returns-4
-returns-4 c = statement-all _ _ _ _ (index-got _ _ _ _ (c .before .before .before .before .before .before .before .before .before .before .before .before .before .array-count .ensures) (c .before .before .before .before .before .before .before .before .before .before .before .before .index-at .ensures) (c .before .before .before .before .before .before .before .before .before .before .array .given .1)) (λ z. c .before .before .before .before .before .before .before .if1 .left (c .before .before .before .before .before .before .before .before .role-of .ensures ∙ z)) (c .before .before .before .before .before .before .dimensions-of .ensures) (c .before .before .before .before .before .forms-end .result) (c .before .before .before .before .before .forms-end .ensures) (c .before .before .before .source .given .1) (c .before .expression-end .ensures) (c .past .ensures)
+returns-4 c = statement-all _ _ _ _ (index-got _ _ _ _ (c .before .before .before .before .before .before .before .before .before .before .before .before .before .array-count .ensures) (c .before .before .before .before .before .before .before .before .before .before .before .before .index-at .ensures) (c .before .before .before .before .before .before .before .before .before .before .array .given .1)) (λ z. c .before .before .before .before .before .before .before .if1 .left (c .before .before .before .before .before .before .before .before .role-of .ensures ∙ z)) (c .before .before .before .before .before .before .dimensions-of .ensures) (c .before .before .before .before .before .forms-past .result) (c .before .before .before .before .before .forms-past .ensures) (c .before .before .before .source .given .1) (c .before .expression-past .ensures) (c .past .ensures)
 
 pub statement-end-spec : {M : Type 1} → statement M
 statement-end-spec =
@@ -65,10 +65,10 @@ statement-end-spec =
     role-of-requires
     returns
     dimensions-of-requires
-    forms-end-requires
+    forms-past-requires
     enum-known-number-2
     enum-known-source
-    expression-end-requires
+    expression-past-requires
     past-requires
     returns-2
     returns-3
