@@ -10,8 +10,8 @@ use lib.ListN.{length, getD, drop, take, length-drop}
 use lib.Seq.{drop-cons}
 use lib.Dec.{T, ltb, leb}
 use lib.IntN.{ℤ, pos, negsuc, natAbs, _-ℤ_}
-use lib.Signed.{ltZ, nonNeg}
-use borrow.Author.Tests.{ltb-true, le-ltb, leb-true}
+use lib.Signed.{leZ, ltZ, nonNeg}
+use borrow.Author.Tests.{ltb-true, lt-ltb, le-ltb, leb-true, leb-false}
 use mir.Syntax.{w32, w64}
 use mir.Val.{toZ, ofZ, SFits, Fits}
 use mir.Facts.{toZ-ofZ}
@@ -80,30 +80,41 @@ module _ (v : ℤ) (f : SFits w64 v) where
       go (negsuc n) e h t = absurd (false≢true (sym e))
 
   -- a subscript against its extent
-  module _ (e next : ℕ) where
-    pub extent-negative : ltZ back (pos 0) ≡ true → InExtent e v next (cell.No 16)
+  pub extent-negative : (e next : ℕ) → ltZ back (pos 0) ≡ true → InExtent e v next (cell.No 16)
+  unfolding InExtent
+  extent-negative e next q p = go v (rw same at q)
+    where
+      go : (v : ℤ) → ltZ v (pos 0) ≡ true → CellIs (inExtent p e v) next (cell.No 16)
+      go (pos n) q = absurd (let h = ltb-true n 0 q in omega arith)
+      go (negsuc n) q = refl
+
+  module _ (e next : ℕ) (small : e < 65536) where
+    extent : toZ w64 (ofZ w64 (pos e)) ≡ pos e
+    extent = toZ-ofZ {w = w64} {z = pos e} (record { sfits = omega arith })
+
+    pub extent-beyond : leZ (toZ w64 (ofZ w64 (pos e))) back ≡ true → InExtent e v next (cell.No 16)
     unfolding InExtent
-    extent-negative q p = go v (rw same at q)
+    extent-beyond q p = go v (rw (extent, same) at q)
       where
-        go : (v : ℤ) → ltZ v (pos 0) ≡ true → CellIs (inExtent p e v) next (cell.No 16)
-        go (pos n) q = absurd (let h = ltb-true n 0 q in omega arith)
+        go : (v : ℤ) → leZ (pos e) v ≡ true → CellIs (inExtent p e v) next (cell.No 16)
+        go (pos n) q = rw (le-ltb n e (leb-true e n q)) refl
         go (negsuc n) q = refl
 
-    pub extent-inside : ltZ back (pos 0) ≡ false → ltb (natAbs back) e ≡ true → InExtent e v next (cell.Is (natAbs back) next)
-    unfolding InExtent
-    extent-inside q h p = rw same (go v (rw same at q) (rw same at h))
-      where
-        go : (v : ℤ) → ltZ v (pos 0) ≡ false → ltb (natAbs v) e ≡ true → CellIs (inExtent p e v) next (cell.Is (natAbs v) next)
-        go (pos n) q h = rw h (refl, refl)
-        go (negsuc n) q h = absurd (false≢true (sym q))
+    module _ (below : leZ (toZ w64 (ofZ w64 (pos e))) back ≡ false) (positive : ltZ back (pos 0) ≡ false) where
+      pub inside-below : natAbs back < e
+      inside-below = rw same (go v (rw (extent, same) at below) (rw same at positive))
+        where
+          go : (v : ℤ) → leZ (pos e) v ≡ false → ltZ v (pos 0) ≡ false → natAbs v < e
+          go (pos n) q h = leb-false e n q
+          go (negsuc n) q h = absurd (false≢true (sym h))
 
-    pub extent-outside : ltZ back (pos 0) ≡ false → e ≤ natAbs back → InExtent e v next (cell.No 16)
-    unfolding InExtent
-    extent-outside q h p = go v (rw same at q) (rw same at (le-ltb (natAbs back) e h))
-      where
-        go : (v : ℤ) → ltZ v (pos 0) ≡ false → ltb (natAbs v) e ≡ false → CellIs (inExtent p e v) next (cell.No 16)
-        go (pos n) q h = rw h refl
-        go (negsuc n) q h = absurd (false≢true (sym q))
+      pub extent-inside : InExtent e v next (cell.Is (natAbs back) next)
+      unfolding InExtent
+      extent-inside p = rw same (go v (rw same at positive) (rw same at inside-below))
+        where
+          go : (v : ℤ) → ltZ v (pos 0) ≡ false → natAbs v < e → CellIs (inExtent p e v) next (cell.Is (natAbs v) next)
+          go (pos n) q h = rw (lt-ltb n e h) (refl, refl)
+          go (negsuc n) q h = absurd (false≢true (sym q))
 
 -- a subscript, worked out and asked
 module _ (s : List ℕ) (at loops : ℕ) (is : List ℤ) (e : ℕ) where

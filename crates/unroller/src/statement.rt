@@ -73,22 +73,23 @@ fn bits_of(v: i64) -> u32
     }
 }
 
-// Is the subscript inside its extent? 16
+// Is the subscript inside its extent? 16. With the extent first LLVM makes one comparison of the two.
 fn in_extent(v: i64, extent: usize, next: usize) -> Cell
+    requires { ⌜ extent < 65536 ⌝ }
     ensures says { λ r. ⌜ InExtent extent v next r ⌝ }
     ensures below { λ r. ⌜ Below extent r ⌝ }
 {
+    if v >= extent as i64 {
+        return Cell::No(16);
+    }
     if v < 0 {
         return Cell::No(16);
     }
-    let k = v as usize;
-    if k < extent {
-        return Cell::Is(k, next);
-    }
-    Cell::No(16)
+    Cell::Is(v as usize, next)
 }
 
 fn subscript_at(program: &[u8], at: usize, loops: usize, indices: [i16; 8], extent: usize) -> Cell
+    requires { ⌜ extent < 65536 ⌝ }
     ensures says { λ r. ⌜ Subscript (now (program .entry)) at loops indices extent r ⌝ }
     ensures below { λ r. ⌜ Below extent r ⌝ }
 {

@@ -1,20 +1,25 @@
 use native.Mathlib.Omega.{arith}
-use borrow.Author.Tests.{lt-ltb}
-use Rattle.unroller.proofs.Cells.{sign-pos, extent-negative, extent-inside, extent-outside}
+use Rattle.unroller.proofs.Cells.{sign-pos, extent-negative, extent-beyond, inside-below, extent-inside}
 use Rattle.unroller.proofs.statement.in_extent.Statement.{statement}
 use Rattle.unroller.proofs.statement.in_extent.Tie as tie
 
-returns : tie.Need-returns
-returns c = (extent-negative (c .before .args .v) (c .before .fits .v) _ _ (c .if1 .taken), tt)
+cast-if1 : tie.Need-cast-if1
+cast-if1 c = record { sfits = omega (arith, c .pre) }
 
-cast-k : tie.Need-cast-k
-cast-k c = sign-pos (c .before .args .v) (c .before .fits .v) (c .if1 .left)
+returns : tie.Need-returns
+returns c = (extent-beyond (c .before .args .v) (c .before .fits .v) _ _ (c .before .pre) (c .if1 .taken), tt)
 
 returns-2 : tie.Need-returns-2
-returns-2 c = (extent-inside (c .before .before .args .v) (c .before .before .fits .v) _ _ (c .before .if1 .left) (lt-ltb _ _ (c .if2 .taken)), c .if2 .taken)
+returns-2 c = (extent-negative (c .before .before .args .v) (c .before .before .fits .v) _ _ (c .if2 .taken), tt)
+
+cast-t6 : tie.Need-cast-t6
+cast-t6 c = sign-pos (c .before .before .args .v) (c .before .before .fits .v) (c .if2 .left)
 
 returns-3 : tie.Need-returns-3
-returns-3 c = (extent-outside (c .before .before .args .v) (c .before .before .fits .v) _ _ (c .before .if1 .left) (omega arith), tt)
+returns-3 c = let a = c .before .before in (
+  extent-inside (a .args .v) (a .fits .v) (a .args .extent) (a .args .next) (a .pre) (c .before .if1 .left) (c .if2 .left),
+  inside-below (a .args .v) (a .fits .v) (a .args .extent) (a .args .next) (a .pre) (c .before .if1 .left) (c .if2 .left),
+)
 
 pub in-extent-spec : {M : Type 1} → statement M
-in-extent-spec = tie.close (tie.spec returns cast-k returns-2 returns-3)
+in-extent-spec = tie.close (tie.spec cast-if1 returns returns-2 cast-t6 returns-3)
