@@ -1,14 +1,29 @@
 // Reads a framed pair of programs from standard input and prints the line of the reply. One byte more than the longest pair
-// has is read: what follows it changes no reply (`InputCut`).
+// has is read: what follows it changes no reply (`InputCut`). Where a read fails there is no reply, only a line on standard error.
+use source::Got;
+
 fn main() {
     let mut input = [0u8; 32771];
-    let n = io::read_full(0, &mut input);
+    match source::fill(libc::STDIN_FILENO, &mut input) {
+        Got::Bytes(n) => {
+            answer(&input[0..n]);
+        }
+        Got::Failed(_) => {
+            io::write_all(
+                libc::STDERR_FILENO,
+                b"pair: a read of standard input failed\n",
+            );
+        }
+    }
+}
+
+fn answer(input: &[u8]) {
     let mut left_list = [0u32; 32768];
     let mut right_list = [0u32; 32768];
     let mut cells = [0u32; 4096];
     let mut terms = [0u32; 32768];
     let reply = comparer::compare_input(
-        &input[0..n],
+        input,
         &mut left_list,
         &mut right_list,
         &mut cells,
@@ -21,6 +36,11 @@ fn main() {
 
 fn print(bytes: &[u8], n: usize) {
     if n <= bytes.len() {
-        io::write_all(1, &bytes[0..n]);
+        if !io::write_all(libc::STDOUT_FILENO, &bytes[0..n]) {
+            io::write_all(
+                libc::STDERR_FILENO,
+                b"pair: a write to standard output failed\n",
+            );
+        }
     }
 }
