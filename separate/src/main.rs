@@ -6,10 +6,10 @@ use std::process::ExitCode;
 
 use separate::input::INPUT_BYTES;
 use separate::random::{ListPairs, Pairs, Records};
-use separate::{entries, line_of, notation, stream, Reply, Work};
+use separate::{entries, line_of, notation, stream, Refusal, Reply, Work};
 
-const USAGE: &str =
-    "usage: separate pair | lines | histogram | list-lines | entry-lines | asm | dis
+const USAGE: &str = "usage: separate pair | lines | histogram | list-lines | entry-lines
+       separate asm [--places] | dis [--places]
        separate random COUNT SEED | random-lists COUNT SEED | random-entries COUNT SEED";
 
 /// What goes to standard error before the program ends with status 2.
@@ -25,7 +25,9 @@ fn main() -> ExitCode {
         Some(["list-lines"]) => list_lines(),
         Some(["entry-lines"]) => entry_lines(),
         Some(["asm"]) => asm(),
-        Some(["dis"]) => dis(),
+        Some(["asm", "--places"]) => asm_places(),
+        Some(["dis"]) => dis(notation::disassemble),
+        Some(["dis", "--places"]) => dis(notation::disassemble_with_places),
         Some(["random", count, seed]) => random(count, seed),
         Some(["random-lists", count, seed]) => random_lists(count, seed),
         Some(["random-entries", count, seed]) => random_entries(count, seed),
@@ -157,19 +159,31 @@ fn random_entries(count: &str, seed: &str) -> Outcome {
     })
 }
 
+fn standard_text() -> Result<String, String> {
+    String::from_utf8(standard_input()?).map_err(|error| {
+        let text = String::from_utf8_lossy(&error.as_bytes()[..error.utf8_error().valid_up_to()]);
+        let line = 1 + text.matches('\n').count();
+        let column = 1 + text.rsplit('\n').next().map_or(0, |rest| rest.chars().count());
+        format!("line {line}, column {column}: a byte that is not UTF-8")
+    })
+}
+
 fn asm() -> Outcome {
-    let text = standard_input()?;
-    let text = std::str::from_utf8(&text).map_err(|error| {
-        let line = 1 + text[..error.valid_up_to()].iter().filter(|&&byte| byte == b'\n').count();
-        format!("line {line}: not UTF-8")
-    })?;
-    let bytes = notation::assemble(text).map_err(|error| error.to_string())?;
+    let bytes = notation::assemble(&standard_text()?).map_err(|error| error.to_string())?;
     output(|out| out.write_all(&bytes))
 }
 
-fn dis() -> Outcome {
+fn asm_places() -> Outcome {
+    let places = notation::places(&standard_text()?).map_err(|error| error.to_string())?;
+    output(|out| {
+        places.iter().try_for_each(|notation::Place { place, at, what }| {
+            writeln!(out, "{place}\t{}\t{}\t{what}", at.line, at.column)
+        })
+    })
+}
+
+fn dis(text_of: fn(&[u8]) -> Result<String, Refusal>) -> Outcome {
     let bytes = standard_input()?;
-    let text = notation::disassemble(&bytes)
-        .map_err(|no| format!("refused {} {}", no.number, no.place))?;
+    let text = text_of(&bytes).map_err(|no| format!("refused {} {}", no.number, no.place))?;
     output(|out| out.write_all(text.as_bytes()))
 }

@@ -122,12 +122,31 @@ fn asm_and_dis() {
     assert_eq!(separate(&["asm"], &dis.stdout).stdout, L);
     let wrong = separate(&["asm"], b"array A in [1]\n\nA[0] = x\n");
     assert_eq!(wrong.status.code(), Some(2));
-    assert!(text(&wrong.stderr).starts_with("line 3: "), "{}", text(&wrong.stderr));
+    assert!(text(&wrong.stderr).starts_with("line 3, column 8: "), "{}", text(&wrong.stderr));
     assert!(wrong.stdout.is_empty());
     let wrong = separate(&["asm"], b"array A in [1]\n# \xFF\n");
     assert_eq!(wrong.status.code(), Some(2));
-    assert!(text(&wrong.stderr).starts_with("line 2: "));
+    assert!(text(&wrong.stderr).starts_with("line 2, column 3: "));
     let wrong = separate(&["dis"], &L[..33]);
     assert_eq!(wrong.status.code(), Some(2));
     assert_eq!(text(&wrong.stderr), "refused 3 33\n");
+}
+
+#[test]
+fn asm_and_dis_with_places() {
+    let dis = separate(&["dis", "--places"], &L);
+    assert!(text(&dis.stdout).contains("  B[i] = A[i]  # at 22\n"));
+    assert_eq!(separate(&["asm"], &dis.stdout).stdout, L);
+    let places = separate(&["asm", "--places"], &dis.stdout);
+    assert!(
+        text(&places.stdout).starts_with("5\t3\t1\toperator count\n"),
+        "{}",
+        text(&places.stdout)
+    );
+    assert!(text(&places.stdout).contains("\n22\t4\t3\tstatement\n"));
+    let wrong = separate(&["asm", "--places"], b"array A in [1]\n\nA[0] = x\n");
+    assert_eq!(wrong.status.code(), Some(2));
+    assert!(text(&wrong.stderr).starts_with("line 3, column 8: "));
+    let wrong = separate(&["dis", "--places"], &L[..33]);
+    assert_eq!((wrong.status.code(), text(&wrong.stderr)), (Some(2), "refused 3 33\n"));
 }

@@ -2,7 +2,7 @@
 
 mod common;
 use common::{asm, L};
-use separate::notation::{assemble, disassemble, parse, print};
+use separate::notation::{assemble, disassemble, disassemble_with_places, parse, places, print};
 use separate::random::Pairs;
 use separate::read::read_program;
 use separate::tree::{encode, Source};
@@ -104,55 +104,282 @@ fn trees_go_both_ways() {
     assert_eq!(Source::of(&read_program(&bytes).unwrap()), source);
 }
 
-fn error(text: &str) -> (usize, String) {
+fn error(text: &str) -> (usize, usize, String) {
     let error = assemble(text).expect_err("an error");
-    (error.line, error.message)
+    (error.at.line, error.at.column, error.message)
+}
+
+const JOINED: &str = "values are joined by declared operators alone, as in f(A[0], 1); \
+                      + and - stand in sums of numbers and indices";
+const SUM: &str = "a sum has numbers and indices alone, and values are joined by declared \
+                   operators, as in f(A[0], 1)";
+const PRODUCT: &str = "a product is NUMBER*INDEX, as 2*i: the number first, and no other factor";
+
+/// Each text with the line and column of its error, and the message.
+fn check_errors(head: &str, cases: &[(usize, usize, &str, &str)]) {
+    for &(line, column, wrong, message) in cases {
+        assert_eq!(
+            error(&format!("{head}{wrong}")),
+            (line, column, message.to_string()),
+            "{wrong:?}"
+        );
+    }
 }
 
 #[test]
-fn errors_name_their_line() {
+fn errors_of_declarations() {
+    check_errors(
+        "op f/2\narray A in [2]\n",
+        &[
+            (3, 1, "? ", "'?' is no sign of the notation and begins no name or number"),
+            (3, 1, "\u{e9}", "'\u{e9}' is no sign of the notation and begins no name or number"),
+            (3, 6, "op g/256", "the arity 256 is outside 0 to 255 (1 to 4 are allowed)"),
+            (3, 6, "op g/-1", "the arity -1 is outside 0 to 255 (1 to 4 are allowed)"),
+            (3, 6, "op g/x", "expected a number, the arity, found 'x'"),
+            (3, 5, "op g(2)", "expected '/', found '('"),
+            (3, 4, "op step/1", "'step' is reserved: it names nothing"),
+            (3, 4, "op f/1", "'f' already names an operator"),
+            (3, 4, "op A/1", "'A' already names an array"),
+            (3, 4, "op 7/1", "expected a name, found 7"),
+            (3, 9, "array C with [1]", "expected 'in', 'out', 'inout' or 'local', found 'with'"),
+            (3, 7, "array A in [1]", "'A' already names an array"),
+            (3, 12, "array C in 4", "expected '[', found 4"),
+            (3, 13, "array C in []", "expected a number, the extent, found ']'"),
+            (
+                3,
+                13,
+                "array C in [65536]",
+                "the extent 65536 is outside 0 to 65535 (1 to 1024 are allowed)",
+            ),
+            (3, 15, "array C in [4 5]", "expected ',' or ']', found 5"),
+            (
+                3,
+                13,
+                "array C in [99999999999]",
+                "the number 99999999999 is beyond 4294967295, the largest there is",
+            ),
+            (3, 6, "op g/0x1G", "'0x1G' is neither a number (12, 0x1F) nor a name"),
+            (3, 6, "op g/0x", "'0x' is neither a number (12, 0x1F) nor a name"),
+            (4, 1, "op g/1\n}", "this '}' closes nothing"),
+            (4, 1, "op g/1\n12 = 3", "expected a statement, 'for' or 'if', found 12"),
+        ],
+    );
+    let many: String = (0..256).map(|number| format!("op f{number}/1\n")).collect();
+    let message = "256 operators: their count is outside 0 to 255 (up to 16 are allowed)";
+    assert_eq!(error(&many), (256, 1, message.to_string()));
+    let many: String = (0..256).map(|number| format!("array A{number} in [1]\n")).collect();
+    let message = "256 arrays: their count is outside 0 to 255 (up to 16 are allowed)";
+    assert_eq!(error(&many), (256, 1, message.to_string()));
+    let many = format!("array A in [1{}]", ", 1".repeat(255));
+    let message = "256 dimensions: outside 0 to 255 (1 to 3 are allowed)";
+    assert_eq!(error(&many), (1, 7, message.to_string()));
+}
+
+#[test]
+fn errors_of_items() {
+    check_errors(
+        "op f/2\narray A in [2]\narray B out [2]\n",
+        &[
+            (4, 1, "C[0] = 1", "array 'C' is not declared"),
+            (4, 1, "f[0] = 1", "'f' is an operator: it is applied as f(..)"),
+            (5, 1, "for i = 0 to 1 {\ni = 2 }", "'i' is an index, not an array"),
+            (4, 1, "B[0, 1] = 2", "2 subscripts for 'B', which has 1 dimension"),
+            (4, 3, "B = 2", "expected '[', found '='"),
+            (4, 3, "B[] = 2", "expected a number or an index, found ']'"),
+            (4, 5, "B[0 = 2", "expected ',' or ']', found '='"),
+            (4, 6, "B[0] 2", "expected '=', found 2"),
+            (4, 3, "B[i] = 2", "'i' is no index: no loop encloses this"),
+            (
+                4,
+                14,
+                "for i = 0 to i { }",
+                "the start and end of the loop over 'i' do not see 'i' itself",
+            ),
+            (5, 5, "for i = 0 to 1 {\nfor i = 0 to 1 { } }", "'i' already names an index"),
+            (4, 5, "for A = 0 to 1 { }", "'A' already names an array"),
+            (4, 5, "for to = 0 to 1 { }", "'to' is reserved: it names nothing"),
+            (4, 7, "for i 0 to 1 { }", "expected '=', found 0"),
+            (4, 9, "for i = to 1 { }", "expected a number or an index, found 'to'"),
+            (4, 11, "for i = 0 1 { }", "expected 'to', found 1"),
+            (4, 16, "for i = 0 to 1 by 2 { }", "expected 'step' or '{', found 'by'"),
+            (4, 21, "for i = 0 to 1 step 40000 { }", "the step 40000 is outside -32768 to 32767"),
+            (4, 21, "for i = 0 to 1 step -32769 { }", "the step -32769 is outside -32768 to 32767"),
+            (4, 21, "for i = 0 to 1 step x { }", "expected a number, the step, found 'x'"),
+            (4, 23, "for i = 0 to 1 step 2 B[i] = 1", "expected '{', found 'B'"),
+            (4, 9, "if 1 >= 1 { }", "expected 0 (a condition is written FORM >= 0), found 1"),
+            (4, 6, "if 1 > 0 { }", "'>' is no sign: a condition is written FORM >= 0"),
+            (4, 6, "if 1 = 0 { }", "expected '>=', found '='"),
+            (5, 1, "for i = 0 to 1 {\n\n", "the '{' of line 4, column 16 is not closed"),
+            (4, 18, "for i = 0 to 1 { 3 }", "expected a statement, 'for', 'if' or '}', found 3"),
+            (4, 10, "B[0] = 1 }", "this '}' closes nothing"),
+            (
+                4,
+                9,
+                "B[0] = 1; B[1] = 2",
+                "';' is no sign: statements follow each other without one",
+            ),
+            (
+                5,
+                1,
+                "B[0] = 1\narray C in [1]",
+                "a declaration behind an item: all declarations come first",
+            ),
+        ],
+    );
+}
+
+#[test]
+fn errors_of_expressions() {
     let head = "op f/2\narray A in [2]\narray B out [2]\n";
-    for (line, wrong) in [
-        (4, "B[0] = C[0]"),
-        (4, "C[0] = 1"),
-        (5, "B[0] = 1\nB[0] = g(1, 2)"),
-        (4, "B[0] = f(1)"),
-        (4, "B[0] = f(1, 2, 3)"),
-        (4, "B[0, 1] = 2"),
-        (4, "B[i] = 2"),
-        (4, "for i = 0 to i { }"),
-        (5, "for i = 0 to 1 {\nfor i = 0 to 1 { } }"),
-        (4, "for A = 0 to 1 { }"),
-        (4, "for to = 0 to 1 { }"),
-        (4, "for i = 0 to 1 step 40000 { }"),
-        (4, "for i = 0 to 1 step x { }"),
-        (4, "if 1 >= 1 { }"),
-        (4, "if 1 > 0 { }"),
-        (4, "B[0] = 40000"),
-        (4, "for i = 0 to 1 { B[i] = 128*i }"),
-        (4, "B[0] = const -1"),
-        (4, "B[0] = const 4294967296"),
-        (4, "B[0] = 1; B[1] = 2"),
-        (4, "}"),
-        (5, "for i = 0 to 1 {\n\n"),
-        (4, "array C in [1] B[0] = 1 }"),
-        (5, "B[0] = 1\narray C in [1]"),
-        (4, "array C with [1]"),
-        (4, "array C in [65536]"),
-        (4, "array A in [1]"),
-        (4, "op f/256"),
-        (4, "op step/1"),
-        (4, "12 = 3"),
-        (4, "B[0] ="),
-        (4, "B[0] = 12x"),
-        (4, "B[0] = 2*3"),
-        (4, "B[0] = \u{e9}"),
+    let joined = |sign: char| format!("'{sign}' behind a value: {JOINED}");
+    let is = |name: &str, kind: &str| format!("'{name}' is {kind}: {SUM}");
+    let found =
+        |token: &str| format!("expected a read, an operator, 'const' or a literal, found {token}");
+    for (column, wrong, message) in [
+        (8, "C[0]", "array 'C' is not declared".to_string()),
+        (8, "g(1, 2)", "operator 'g' is not declared".to_string()),
+        (8, "A(1)", "'A' is an array: it is read as A[..]".to_string()),
+        (8, "f[1]", "'f' is an operator: it is applied as f(..)".to_string()),
+        (8, "f(1)", "1 argument for 'f', whose arity is 2".to_string()),
+        (8, "f(1, 2, 3)", "3 arguments for 'f', whose arity is 2".to_string()),
+        (12, "f(1 2)", "expected ',' or ')', found 2".to_string()),
+        (10, "f()", found("')'")),
+        (8, "(1)", found("'('")),
+        (8, "", found("'}'")),
+        (13, "A[0] + 1", joined('+')),
+        (15, "f(A[0] - 1, 2)", joined('-')),
+        (16, "f(1, 2) * 3", joined('*')),
+        (13, "A[0] / 2", joined('/')),
+        (16, "const 7 + 1", joined('+')),
+        (12, "1 + A[0]", is("A", "an array")),
+        (12, "1 + f(1, 2)", is("f", "an operator")),
+        (9, "-A[0]", is("A", "an array")),
+        (10, "A[A[0]]", is("A", "an array")),
+        (9, "i*2", PRODUCT.to_string()),
+        (9, "i*i", PRODUCT.to_string()),
+        (11, "2*i*3", PRODUCT.to_string()),
+        (10, "2*3", "expected an index, found 3".to_string()),
+        (12, "1 + + 2", "expected a number or an index, found '+'".to_string()),
+        (9, "i/2", "'/' in a sum: there is no division".to_string()),
+        (8, "k", "'k' is no index here: they are i".to_string()),
+        (8, "40000", "the constant 40000 is outside -32768 to 32767".to_string()),
+        (8, "i - 32769", "the constant -32769 is outside -32768 to 32767".to_string()),
+        (8, "128*i", "the coefficient 128 of i is outside -128 to 127".to_string()),
+        (8, "-128*i - i", "the coefficient -129 of i is outside -128 to 127".to_string()),
+        (14, "const -1", "the name -1 is outside 0 to 4294967295".to_string()),
+        (14, "const x", "expected a number, the name, found 'x'".to_string()),
+        (8, "12x", "'12x' is neither a number (12, 0x1F) nor a name".to_string()),
     ] {
-        let text = format!("{head}{wrong}");
-        let (found, message) = error(&text);
-        assert_eq!(found, line, "{wrong:?}: {message}");
-        assert!(!message.is_empty());
+        let text = format!("{head}for i = 0 to 1 {{\nB[i] = {wrong}\n}}");
+        let line = if wrong.is_empty() { 6 } else { 5 };
+        let column = if wrong.is_empty() { 1 } else { column };
+        assert_eq!(error(&text), (line, column, message), "{wrong:?}");
     }
+}
+
+#[test]
+fn deep_nesting_is_an_error_and_no_crash() {
+    let head = "op f/1\narray A out [1]\n";
+    for (open, close) in [("f(", ")"), ("if 0 >= 0 { ", "}")] {
+        let (begin, end) = if close == ")" { ("A[0] = ", "1") } else { ("", "A[0] = 1") };
+        let text =
+            |deep: usize| format!("{head}{begin}{}{end}{}", open.repeat(deep), close.repeat(deep));
+        assert!(assemble(&text(300)).is_ok());
+        let (line, _, message) = error(&text(100_000));
+        assert_eq!(
+            (line, message.as_str()),
+            (3, "nested more than 500 deep (8 and 12 are allowed)")
+        );
+    }
+}
+
+/// Every field of a program that `dis` wrote stands where its place says.
+fn check_places(text: &str, bytes: &[u8]) {
+    let lines: Vec<_> = text.lines().collect();
+    let rows = places(text).unwrap();
+    assert_eq!(rows.len(), encode(&parse(text).unwrap()).fields.len());
+    for row in rows {
+        let line = lines.get(row.at.line - 1).copied().unwrap_or("");
+        let rest = line.get(row.at.column - 1..).unwrap_or("");
+        let byte = bytes[row.place];
+        let (kind, name) = row.what.split_once(' ').unwrap_or((&row.what, ""));
+        let ok = match kind {
+            "statement" => byte == 1 && rest.contains(" = "),
+            "loop" => byte == 2 && rest.starts_with("for "),
+            "guard" => byte == 3 && rest.starts_with("if "),
+            "end" => byte == 0 && (rest == "}" || rest.is_empty()),
+            "step" => line[..row.at.column - 1].ends_with("step "),
+            "operator" | "array" if name == "count" => true,
+            "role" | "arity" | "target" | "array" => rest.starts_with(name),
+            "operator" if name.is_empty() => byte == 0x11 && rest.starts_with('f'),
+            "operator" => rest.starts_with(name),
+            "dimensions" => rest.starts_with('['),
+            "extent" => {
+                u16::from_le_bytes([byte, bytes[row.place + 1]]).to_string() == {
+                    rest.split([',', ']']).next().unwrap()
+                }
+            }
+            "read" => byte == 0x10 && rest.starts_with(|c: char| c.is_ascii_uppercase()),
+            "literal" => byte == 0x12,
+            "constant" => byte == 0x13 && rest.starts_with("const "),
+            _ => false,
+        };
+        assert!(ok, "{row:?} in {line:?}");
+    }
+}
+
+#[test]
+fn places_of_random_programs() {
+    let mut checked = 0;
+    for input in Pairs::new(78).take(600) {
+        let Some(program) = input.get(2..) else { continue };
+        let length = usize::from(u16::from_le_bytes([input[0], input[1]]));
+        let Some(program) = program.get(..length) else { continue };
+        let Ok(text) = disassemble(program) else { continue };
+        check_places(&text, program);
+        let with = disassemble_with_places(program).unwrap();
+        assert_eq!(asm(&with), program);
+        let bare: Vec<_> = with.lines().map(|line| line.split("  # at ").next().unwrap()).collect();
+        let (last, bare) = bare.split_last().unwrap();
+        assert_eq!(*last, format!("# end at {}", program.len() - 1));
+        assert!(text.lines().eq(bare.iter().copied()));
+        checked += 1;
+    }
+    assert!(checked > 400, "{checked}");
+}
+
+#[test]
+fn places_of_program_l() {
+    let expected = "array A in [2]  # at 7
+array B out [2]  # at 11
+for i = 0 to 1 step 1 {  # at 15
+  B[i] = A[i]  # at 22
+}  # at 32
+# end at 33
+";
+    assert_eq!(disassemble_with_places(&L).as_deref(), Ok(expected));
+    let text = "array A in [2]\n\narray B out [2]\nfor i = 0 to 1 {\n  B[i] =\n    A[i]\n}\n";
+    let rows: Vec<_> = places(text).unwrap();
+    let row = |place: usize| {
+        let row = rows.iter().rfind(|row| row.place <= place).unwrap();
+        (row.at.line, row.at.column, row.what.as_str())
+    };
+    assert_eq!(row(11), (3, 7, "role B"));
+    assert_eq!(row(15), (4, 1, "loop"));
+    assert_eq!(row(20), (4, 16, "step"));
+    assert_eq!(row(22), (5, 3, "statement"));
+    assert_eq!(row(23), (5, 3, "target B"));
+    assert_eq!(row(27), (6, 5, "read"));
+    assert_eq!(row(32), (7, 1, "end"));
+}
+
+#[test]
+fn places_of_counts() {
+    let many: String = (0..17).map(|number| format!("op f{number}/1\n")).collect();
+    let rows = places(&(many + "array A out [1]\n")).unwrap();
+    assert_eq!((rows[0].place, rows[0].at.line, rows[0].what.as_str()), (5, 17, "operator count"));
+    let rows = places("op f/1\n\nfor i = 0 to 1 { }").unwrap();
+    assert_eq!((rows[2].place, rows[2].at.line, rows[2].what.as_str()), (7, 3, "array count"));
 }
 
 #[test]

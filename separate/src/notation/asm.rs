@@ -1,22 +1,15 @@
 //! From text to a tree and to bytes.
 
-use std::fmt;
+use std::ops::RangeInclusive;
 
+use super::token::{tokens, Error, Position, Token};
 use super::{RESERVED, ROLES};
+use crate::limits::{ARITY, ARRAYS, EXTENT, OPERATORS};
 use crate::tables::Role;
 use crate::tree::{encode, Declaration, Expression, Form, Guard, Item, Loop, Source, Statement};
 
-#[derive(Clone, Debug, PartialEq, Eq)]
-pub struct Error {
-    pub line: usize,
-    pub message: String,
-}
-
-impl fmt::Display for Error {
-    fn fmt(&self, out: &mut fmt::Formatter) -> fmt::Result {
-        write!(out, "line {}: {}", self.line, self.message)
-    }
-}
+/// So deep may a text nest, far beyond what is read, so that the stack is enough.
+const NESTING: usize = 500;
 
 /// The bytes of the program. Whether it would be read or run is not asked.
 pub fn assemble(text: &str) -> Result<Vec<u8>, Error> {
@@ -24,76 +17,41 @@ pub fn assemble(text: &str) -> Result<Vec<u8>, Error> {
 }
 
 pub fn parse(text: &str) -> Result<Source, Error> {
-    let tokens = tokens(text)?;
-    let mut parser = Parser { tokens, at: 0, source: Source::default(), names: Names::default() };
+    marked(text).map(|(source, _)| source)
+}
+
+/// A field of a program file and where it stands in the text.
+#[derive(Clone, Debug, PartialEq, Eq)]
+pub struct Place {
+    pub place: usize,
+    pub at: Position,
+    pub what: String,
+}
+
+/// Every field that is no part of a form, in the order of the file.
+pub fn places(text: &str) -> Result<Vec<Place>, Error> {
+    let (source, marks) = marked(text)?;
+    let fields = encode(&source).fields;
+    assert_eq!(fields.len(), marks.len(), "each field has its mark");
+    let place =
+        |((_, place), (what, at)): ((_, usize), (String, Position))| Place { place, at, what };
+    Ok(fields.into_iter().zip(marks).map(place).collect())
+}
+
+/// What a field is, and where; one for each field that `encode` notes.
+type Mark = (String, Position);
+
+fn marked(text: &str) -> Result<(Source, Vec<Mark>), Error> {
+    let mut parser = Parser { tokens: tokens(text)?, ..Parser::default() };
     parser.declarations()?;
     let items = parser.items()?;
     parser.expect_end()?;
+    parser.mark("end");
     parser.source.items = items;
-    Ok(parser.source)
-}
-
-#[derive(Clone, Debug, PartialEq, Eq)]
-enum Token {
-    Name(String),
-    Number(i64),
-    Sign(&'static str),
-    End,
-}
-
-impl fmt::Display for Token {
-    fn fmt(&self, out: &mut fmt::Formatter) -> fmt::Result {
-        match self {
-            Token::Name(name) => write!(out, "'{name}'"),
-            Token::Number(number) => write!(out, "{number}"),
-            Token::Sign(sign) => write!(out, "'{sign}'"),
-            Token::End => write!(out, "the end of the text"),
-        }
-    }
-}
-
-/// Tokens with the lines they stand on; the last is the end.
-fn tokens(text: &str) -> Result<Vec<(Token, usize)>, Error> {
-    let mut tokens = Vec::new();
-    for (number, line) in text.lines().enumerate() {
-        let line_number = number + 1;
-        let mut rest = line.split('#').next().unwrap_or("").trim_start();
-        while !rest.is_empty() {
-            let (token, behind) =
-                token(rest).map_err(|message| Error { line: line_number, message })?;
-            tokens.push((token, line_number));
-            rest = behind.trim_start();
-        }
-    }
-    tokens.push((Token::End, text.lines().count().max(1)));
-    Ok(tokens)
-}
-
-fn token(text: &str) -> Result<(Token, &str), String> {
-    const SIGNS: [&str; 13] = [">=", "/", "=", "[", "]", "(", ")", "{", "}", ",", "+", "-", "*"];
-    let word = |c: char| c.is_ascii_alphanumeric() || c == '_';
-    let length = text.find(|c| !word(c)).unwrap_or(text.len());
-    if length > 0 {
-        let (word, rest) = text.split_at(length);
-        let token = if word.starts_with(|c: char| c.is_ascii_digit()) {
-            Token::Number(number(word)?)
-        } else {
-            Token::Name(word.to_string())
-        };
-        return Ok((token, rest));
-    }
-    match SIGNS.into_iter().find(|sign| text.starts_with(sign)) {
-        Some(sign) => Ok((Token::Sign(sign), &text[sign.len()..])),
-        None => Err(format!("unknown character {:?}", text.chars().next().unwrap_or(' '))),
-    }
-}
-
-fn number(word: &str) -> Result<i64, String> {
-    let number = match word.strip_prefix("0x") {
-        Some(digits) => u32::from_str_radix(digits, 16),
-        None => word.parse::<u32>(),
-    };
-    number.map(i64::from).map_err(|_| format!("'{word}' is no number of 32 bits"))
+    let mut marks = std::mem::take(&mut parser.operator_marks);
+    marks.append(&mut parser.array_marks);
+    marks.append(&mut parser.item_marks);
+    Ok((parser.source, marks))
 }
 
 #[derive(Default)]
@@ -105,9 +63,15 @@ struct Names {
 }
 
 impl Names {
-    fn taken(&self, name: &str) -> bool {
-        let lists = [&self.operators, &self.arrays, &self.indices];
-        lists.into_iter().flatten().any(|taken| taken == name)
+    /// What the name stands for here.
+    fn kind(&self, name: &str) -> Option<&'static str> {
+        let is_in = |names: &[String]| find(names, name).is_some();
+        match () {
+            () if is_in(&self.operators) => Some("an operator"),
+            () if is_in(&self.arrays) => Some("an array"),
+            () if is_in(&self.indices) => Some("an index"),
+            () => None,
+        }
     }
 }
 
@@ -115,12 +79,24 @@ fn find(names: &[String], name: &str) -> Option<usize> {
     names.iter().position(|known| known == name)
 }
 
+/// A count with its noun.
+fn counted(count: usize, noun: &str) -> String {
+    format!("{count} {noun}{}", if count == 1 { "" } else { "s" })
+}
+
+#[derive(Default)]
 struct Parser {
-    tokens: Vec<(Token, usize)>,
+    tokens: Vec<(Token, Position)>,
     at: usize,
     /// Its items stay empty until all are parsed.
     source: Source,
     names: Names,
+    /// The index of the loop whose bounds are being read, which they do not see.
+    own_index: Option<String>,
+    nesting: usize,
+    operator_marks: Vec<Mark>,
+    array_marks: Vec<Mark>,
+    item_marks: Vec<Mark>,
 }
 
 impl Parser {
@@ -128,13 +104,27 @@ impl Parser {
         &self.tokens[self.at].0
     }
 
-    /// An error on the line of the next token.
+    fn position(&self) -> Position {
+        self.tokens[self.at].1
+    }
+
+    /// An error at the next token.
     fn error<T>(&self, message: impl Into<String>) -> Result<T, Error> {
-        Err(Error { line: self.tokens[self.at].1, message: message.into() })
+        Self::error_at(self.position(), message)
+    }
+
+    fn error_at<T>(at: Position, message: impl Into<String>) -> Result<T, Error> {
+        Err(Error { at, message: message.into() })
     }
 
     fn expected<T>(&self, what: &str) -> Result<T, Error> {
         self.error(format!("expected {what}, found {}", self.peek()))
+    }
+
+    /// Notes that a field of an item begins at the next token.
+    fn mark(&mut self, what: impl Into<String>) {
+        let at = self.position();
+        self.item_marks.push((what.into(), at));
     }
 
     fn is_sign(&self, sign: &str) -> bool {
@@ -175,8 +165,20 @@ impl Parser {
     fn expect_end(&self) -> Result<(), Error> {
         match self.peek() {
             Token::End => Ok(()),
+            Token::Sign("}") => self.error("this '}' closes nothing"),
             _ => self.expected("a statement, 'for' or 'if'"),
         }
+    }
+
+    /// Runs a part that lies one level deeper.
+    fn deeper<T>(&mut self, part: impl FnOnce(&mut Self) -> Result<T, Error>) -> Result<T, Error> {
+        if self.nesting == NESTING {
+            return self.error(format!("nested more than {NESTING} deep (8 and 12 are allowed)"));
+        }
+        self.nesting += 1;
+        let result = part(self);
+        self.nesting -= 1;
+        result
     }
 
     /// A name that is given to something new.
@@ -185,77 +187,129 @@ impl Parser {
             return self.expected("a name");
         };
         if RESERVED.contains(&name.as_str()) {
-            return self.error(format!("'{name}' is reserved"));
+            return self.error(format!("'{name}' is reserved: it names nothing"));
         }
-        if self.names.taken(&name) {
-            return self.error(format!("'{name}' is already in use"));
+        if let Some(kind) = self.names.kind(&name) {
+            return self.error(format!("'{name}' already names {kind}"));
         }
         self.at += 1;
         Ok(name)
     }
 
-    /// A number, perhaps negative, that fits its field.
-    fn number_in<T: TryFrom<i64>>(&mut self, what: &str) -> Result<T, Error> {
-        let begin = self.at;
+    /// A number, perhaps negative, that its field can hold.
+    fn number_in(
+        &mut self,
+        what: &str,
+        range: RangeInclusive<i64>,
+        allowed: &str,
+    ) -> Result<i64, Error> {
+        let at = self.position();
         let negative = self.take_sign("-");
         let Token::Number(number) = *self.peek() else {
-            return self.expected(what);
+            return self.expected(&format!("a number, the {what}"));
         };
         let number = if negative { -number } else { number };
-        let Ok(number) = T::try_from(number) else {
-            self.at = begin;
-            return self.error(format!("{number} does not fit {what}"));
-        };
+        if !range.contains(&number) {
+            let (least, most) = range.into_inner();
+            let message = format!("the {what} {number} is outside {least} to {most}{allowed}");
+            return Self::error_at(at, message);
+        }
         self.at += 1;
         Ok(number)
     }
 
     fn declarations(&mut self) -> Result<(), Error> {
         loop {
+            let at = self.position();
             if self.take_word("op") {
                 self.operator_declaration()?;
+                Self::count(&mut self.operator_marks, "operator", self.source.arities.len(), at)?;
             } else if self.take_word("array") {
                 self.array_declaration()?;
+                Self::count(&mut self.array_marks, "array", self.source.arrays.len(), at)?;
             } else {
-                return self.counts();
+                for (marks, what) in
+                    [(&mut self.operator_marks, "operator"), (&mut self.array_marks, "array")]
+                {
+                    if marks.is_empty() {
+                        marks.push((format!("{what} count"), at));
+                    }
+                }
+                return Ok(());
             }
         }
     }
 
-    /// A count is one byte; how much of it is allowed is the reader's affair.
-    fn counts(&self) -> Result<(), Error> {
-        let most = self.source.arities.len().max(self.source.arrays.len());
-        if most > usize::from(u8::MAX) {
-            return self.error("more than 255 declarations of a kind");
+    /// The count belongs to the last declaration. It is one byte; how much of it is allowed is the
+    /// reader's affair.
+    fn count(marks: &mut [Mark], kind: &str, count: usize, at: Position) -> Result<(), Error> {
+        if count > usize::from(u8::MAX) {
+            let most = if kind == "array" { ARRAYS } else { OPERATORS };
+            let message = format!(
+                "{count} {kind}s: their count is outside 0 to 255 (up to {most} are allowed)"
+            );
+            return Self::error_at(at, message);
         }
+        marks[0] = (format!("{kind} count"), at);
         Ok(())
     }
 
+    /// Notes a field of a declaration. The first place is kept for the count.
+    fn declare(marks: &mut Vec<Mark>, what: String, at: Position) {
+        if marks.is_empty() {
+            marks.push((String::new(), at));
+        }
+        marks.push((what, at));
+    }
+
     fn operator_declaration(&mut self) -> Result<(), Error> {
+        let at = self.position();
         let name = self.new_name()?;
         self.sign("/")?;
-        let arity = self.number_in("an arity of one byte")?;
+        let allowed = format!(" (1 to {ARITY} are allowed)");
+        let arity = self.number_in("arity", 0..=255, &allowed)?;
+        Self::declare(&mut self.operator_marks, format!("arity {name}"), at);
         self.names.operators.push(name);
-        self.source.arities.push(arity);
+        self.source.arities.push(arity as u8);
         Ok(())
     }
 
     fn array_declaration(&mut self) -> Result<(), Error> {
+        let at = self.position();
         let name = self.new_name()?;
         let role = ROLES.iter().position(|role| self.is_word(role));
         let Some(role) = role.and_then(|number| Role::from_number(number as u32)) else {
             return self.expected("'in', 'out', 'inout' or 'local'");
         };
         self.at += 1;
+        Self::declare(&mut self.array_marks, format!("role {name}"), at);
+        let open = self.position();
         self.sign("[")?;
-        let mut extents = vec![self.number_in("an extent of 16 bits")?];
+        Self::declare(&mut self.array_marks, format!("dimensions {name}"), open);
+        let mut extents = vec![self.extent(&name)?];
         while self.take_sign(",") {
-            extents.push(self.number_in("an extent of 16 bits")?);
+            extents.push(self.extent(&name)?);
         }
-        self.sign("]")?;
+        if extents.len() > usize::from(u8::MAX) {
+            let count = extents.len();
+            let message = format!("{count} dimensions: outside 0 to 255 (1 to 3 are allowed)");
+            return Self::error_at(at, message);
+        }
+        if !self.is_sign("]") {
+            return self.expected("',' or ']'");
+        }
+        self.at += 1;
         self.names.arrays.push(name);
         self.source.arrays.push(Declaration { role, extents });
         Ok(())
+    }
+
+    fn extent(&mut self, name: &str) -> Result<u16, Error> {
+        let at = self.position();
+        let allowed = format!(" (1 to {EXTENT} are allowed)");
+        let extent = self.number_in("extent", 0..=65535, &allowed)?;
+        Self::declare(&mut self.array_marks, format!("extent {name}"), at);
+        Ok(extent as u16)
     }
 
     /// Items up to something that begins none.
@@ -265,7 +319,9 @@ impl Parser {
             let item = match name.as_str() {
                 "for" => self.loop_item()?,
                 "if" => self.guard()?,
-                "op" | "array" => return self.error("declarations come before all items"),
+                "op" | "array" => {
+                    return self.error("a declaration behind an item: all declarations come first")
+                }
                 _ => self.statement()?,
             };
             items.push(item);
@@ -274,108 +330,161 @@ impl Parser {
     }
 
     fn block(&mut self) -> Result<Vec<Item>, Error> {
+        let open = self.position();
         self.sign("{")?;
-        let items = self.items()?;
-        self.sign("}")?;
+        let items = self.deeper(Self::items)?;
+        self.mark("end");
+        if *self.peek() == Token::End {
+            return self.error(format!("the '{{' of {open} is not closed"));
+        }
+        if !self.take_sign("}") {
+            return self.expected("a statement, 'for', 'if' or '}'");
+        }
         Ok(items)
     }
 
     fn loop_item(&mut self) -> Result<Item, Error> {
+        self.mark("loop");
         self.word("for")?;
         let index = self.new_name()?;
         self.sign("=")?;
+        self.own_index = Some(index.clone());
         let start = self.form()?;
         self.word("to")?;
         let stop = self.form()?;
-        let step =
-            if self.take_word("step") { self.number_in::<i16>("a step of 16 bits")? } else { 1 };
+        self.own_index = None;
+        let given = self.take_word("step");
+        self.mark("step");
+        let step = if given { self.number_in("step", -32768..=32767, "")? } else { 1 };
+        if !self.is_sign("{") {
+            return self.expected(if given { "'{'" } else { "'step' or '{'" });
+        }
         // From here on only: bounds do not see the loop's own index.
         self.names.indices.push(index);
         let body = self.block()?;
         self.names.indices.pop();
-        Ok(Item::Loop(Loop { start, stop, step: i32::from(step), body }))
+        Ok(Item::Loop(Loop { start, stop, step: step as i32, body }))
     }
 
     fn guard(&mut self) -> Result<Item, Error> {
+        self.mark("guard");
         self.word("if")?;
         let form = self.form()?;
         self.sign(">=")?;
         if *self.peek() != Token::Number(0) {
-            return self.expected("0");
+            return self.expected("0 (a condition is written FORM >= 0)");
         }
         self.at += 1;
         Ok(Item::Guard(Guard { form, body: self.block()? }))
     }
 
     fn statement(&mut self) -> Result<Item, Error> {
-        let (target, subscripts) = self.element()?;
+        self.mark("statement");
+        let (target, subscripts) = self.element("target")?;
         self.sign("=")?;
         let value = self.expression()?;
         Ok(Item::Statement(Statement { target, subscripts, value }))
     }
 
-    /// An array with its subscripts.
-    fn element(&mut self) -> Result<(usize, Vec<Form>), Error> {
+    /// An array with its subscripts; its number is a field of the file.
+    fn element(&mut self, field: &str) -> Result<(usize, Vec<Form>), Error> {
+        let at = self.position();
         let Token::Name(name) = self.peek().clone() else {
             return self.expected("an array");
         };
         let Some(array) = find(&self.names.arrays, &name) else {
-            return self.error(format!("array '{name}' is not declared"));
+            return self.error(match self.names.kind(&name) {
+                Some("an operator") => {
+                    format!("'{name}' is an operator: it is applied as {name}(..)")
+                }
+                Some(kind) => format!("'{name}' is {kind}, not an array"),
+                None => format!("array '{name}' is not declared"),
+            });
         };
+        self.mark(format!("{field} {name}"));
         self.at += 1;
         self.sign("[")?;
         let mut subscripts = vec![self.form()?];
         while self.take_sign(",") {
             subscripts.push(self.form()?);
         }
-        let dimensions = self.source.arrays[array].extents.len();
-        if subscripts.len() != dimensions {
-            let count = subscripts.len();
-            return self.error(format!("'{name}' has {dimensions} dimensions, not {count}"));
+        if !self.take_sign("]") {
+            return self.expected("',' or ']'");
         }
-        self.sign("]")?;
+        let (count, own) = (subscripts.len(), self.source.arrays[array].extents.len());
+        if count != own {
+            let (count, own) = (counted(count, "subscript"), counted(own, "dimension"));
+            return Self::error_at(at, format!("{count} for '{name}', which has {own}"));
+        }
         Ok((array, subscripts))
     }
 
     fn expression(&mut self) -> Result<Expression, Error> {
-        if self.take_word("const") {
-            return Ok(Expression::Constant(self.number_in("a name of 32 bits")?));
+        let value = self.value()?;
+        if let Token::Sign(sign @ ("+" | "-" | "*" | "/")) = self.peek() {
+            return self.error(format!(
+                "'{sign}' behind a value: values are joined by declared operators alone, as in \
+                 f(A[0], 1); + and - stand in sums of numbers and indices"
+            ));
         }
-        if let Token::Name(name) = self.peek() {
-            match self.tokens.get(self.at + 1) {
-                Some((Token::Sign("("), _)) => return self.operator(name.clone()),
-                Some((Token::Sign("["), _)) => {
-                    let (array, subscripts) = self.element()?;
-                    return Ok(Expression::Read { array, subscripts });
-                }
-                _ => {}
+        Ok(value)
+    }
+
+    fn value(&mut self) -> Result<Expression, Error> {
+        if self.is_word("const") {
+            self.mark("constant");
+            self.at += 1;
+            let name = self.number_in("name", 0..=i64::from(u32::MAX), "")?;
+            return Ok(Expression::Constant(name as u32));
+        }
+        match (self.peek(), self.tokens.get(self.at + 1)) {
+            (Token::Name(name), Some((Token::Sign("("), _))) => {
+                let name = name.clone();
+                return self.deeper(|parser| parser.operator(name));
             }
+            (Token::Name(_), Some((Token::Sign("["), _))) => {
+                self.mark("read");
+                let (array, subscripts) = self.element("array")?;
+                return Ok(Expression::Read { array, subscripts });
+            }
+            (Token::Name(_) | Token::Number(_) | Token::Sign("-"), _) => {}
+            _ => return self.expected("a read, an operator, 'const' or a literal"),
         }
+        self.mark("literal");
         Ok(Expression::Literal(self.form()?))
     }
 
     fn operator(&mut self, name: String) -> Result<Expression, Error> {
+        let at = self.position();
         let Some(number) = find(&self.names.operators, &name) else {
-            return self.error(format!("operator '{name}' is not declared"));
+            return self.error(match self.names.kind(&name) {
+                Some("an array") => format!("'{name}' is an array: it is read as {name}[..]"),
+                Some(kind) => format!("'{name}' is {kind}, not an operator"),
+                None => format!("operator '{name}' is not declared"),
+            });
         };
+        self.mark("operator");
+        self.mark(format!("operator {name}"));
         self.at += 1;
         self.sign("(")?;
         let mut arguments = vec![self.expression()?];
         while self.take_sign(",") {
             arguments.push(self.expression()?);
         }
-        let arity = usize::from(self.source.arities[number]);
-        if arguments.len() != arity {
-            let count = arguments.len();
-            return self.error(format!("'{name}' takes {arity} arguments, not {count}"));
+        if !self.take_sign(")") {
+            return self.expected("',' or ')'");
         }
-        self.sign(")")?;
+        let (count, own) = (arguments.len(), usize::from(self.source.arities[number]));
+        if count != own {
+            let count = counted(count, "argument");
+            return Self::error_at(at, format!("{count} for '{name}', whose arity is {own}"));
+        }
         Ok(Expression::Operator { number, arguments })
     }
 
     /// A sum of numbers and multiples of indices, in any order.
     fn form(&mut self) -> Result<Form, Error> {
-        let begin = self.at;
+        let at = self.position();
         let loops = self.names.indices.len();
         let mut sums = vec![0i64; loops + 1];
         let mut factor = if self.take_sign("-") { -1 } else { 1 };
@@ -389,35 +498,72 @@ impl Parser {
             };
             self.at += 1;
         }
-        let constant = i16::try_from(sums[loops]).map(i32::from);
-        let coefficients = sums[..loops].iter().map(|&sum| i8::try_from(sum).map(i32::from));
-        match (constant, coefficients.collect()) {
-            (Ok(constant), Ok(coefficients)) => Ok(Form { constant, coefficients }),
-            _ => {
-                self.at = begin;
-                self.error("a form's constant has 16 bits, its coefficients have 8")
+        self.fitting(&sums, at)
+    }
+
+    /// The form with these coefficients and, last, this constant.
+    fn fitting(&self, sums: &[i64], at: Position) -> Result<Form, Error> {
+        let outside = |what: String, least: i64, most: i64| {
+            Self::error_at(at, format!("{what} is outside {least} to {most}"))
+        };
+        let (&constant, coefficients) = sums.split_last().expect("a sum has a constant");
+        if i16::try_from(constant).is_err() {
+            return outside(format!("the constant {constant}"), -32768, 32767);
+        }
+        for (name, &sum) in self.names.indices.iter().zip(coefficients) {
+            if i8::try_from(sum).is_err() {
+                return outside(format!("the coefficient {sum} of {name}"), -128, 127);
             }
         }
+        let coefficients = coefficients.iter().map(|&sum| sum as i32).collect();
+        Ok(Form { constant: constant as i32, coefficients })
     }
 
     /// One part of a form: an index, if it has one, and how many times.
     fn part(&mut self) -> Result<(Option<usize>, i64), Error> {
-        let Token::Number(times) = *self.peek() else {
-            return Ok((Some(self.index()?), 1));
+        let (index, times) = match *self.peek() {
+            Token::Number(times) => {
+                self.at += 1;
+                (if self.take_sign("*") { Some(self.index("an index")?) } else { None }, times)
+            }
+            _ => (Some(self.index("a number or an index")?), 1),
         };
-        self.at += 1;
-        let index = if self.take_sign("*") { Some(self.index()?) } else { None };
+        if self.is_sign("*") {
+            return self
+                .error("a product is NUMBER*INDEX, as 2*i: the number first, and no other factor");
+        }
+        if self.is_sign("/") {
+            return self.error("'/' in a sum: there is no division");
+        }
         Ok((index, times))
     }
 
-    fn index(&mut self) -> Result<usize, Error> {
+    fn index(&mut self, what: &str) -> Result<usize, Error> {
         let Token::Name(name) = self.peek() else {
-            return self.expected("a number or an index");
+            return self.expected(what);
         };
-        let Some(index) = find(&self.names.indices, name) else {
-            return self.error(format!("'{name}' is no index here"));
-        };
-        self.at += 1;
-        Ok(index)
+        if RESERVED.contains(&name.as_str()) {
+            return self.expected(what);
+        }
+        if let Some(index) = find(&self.names.indices, name) {
+            self.at += 1;
+            return Ok(index);
+        }
+        let name = name.clone();
+        self.error(match self.names.kind(&name) {
+            Some(kind) => format!(
+                "'{name}' is {kind}: a sum has numbers and indices alone, and values are joined by \
+                 declared operators, as in f(A[0], 1)"
+            ),
+            None if self.own_index.as_ref() == Some(&name) => {
+                format!("the start and end of the loop over '{name}' do not see '{name}' itself")
+            }
+            None if self.names.indices.is_empty() => {
+                format!("'{name}' is no index: no loop encloses this")
+            }
+            None => {
+                format!("'{name}' is no index here: they are {}", self.names.indices.join(", "))
+            }
+        })
     }
 }

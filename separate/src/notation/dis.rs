@@ -3,11 +3,26 @@
 use super::ROLES;
 use crate::read::read_program;
 use crate::reply::Refusal;
-use crate::tree::{Expression, Form, Item, Source};
+use crate::tree::{encode, Expression, Field, Form, Item, Source};
 
 /// The text of a program that can be read.
 pub fn disassemble(bytes: &[u8]) -> Result<String, Refusal> {
     read_program(bytes).map(|program| print(&Source::of(&program)))
+}
+
+/// The same with a comment on each line: the place of the role, arity or code byte that it stands for.
+pub fn disassemble_with_places(bytes: &[u8]) -> Result<String, Refusal> {
+    let source = Source::of(&read_program(bytes)?);
+    let mut text = String::new();
+    let mut lines = print(&source).lines().map(str::to_string).collect::<Vec<_>>().into_iter();
+    for (field, place) in encode(&source).fields {
+        if matches!(field, Field::Arity | Field::Role | Field::ItemCode) {
+            // No line is left for the last code, the end of the program.
+            let line = lines.next().map_or("# end".to_string(), |line| line + "  #");
+            text += &format!("{line} at {place}\n");
+        }
+    }
+    Ok(text)
 }
 
 pub fn print(source: &Source) -> String {

@@ -3,9 +3,11 @@
 
 mod asm;
 mod dis;
+mod token;
 
-pub use asm::{assemble, parse, Error};
-pub use dis::{disassemble, print};
+pub use asm::{assemble, parse, places, Place};
+pub use dis::{disassemble, disassemble_with_places, print};
+pub use token::{Error, Position};
 
 /// Words with a meaning of their own, which name nothing else.
 const RESERVED: [&str; 7] = ["op", "array", "for", "to", "step", "if", "const"];
