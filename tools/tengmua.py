@@ -1,39 +1,661 @@
-#!/bin/sh
-# tengmua LEFT RIGHT   prints the line for two program files
-# tengmua -            prints the line for a framed pair on standard input
-# Exit status: 0 equal, 1 differs, 2 refused; 3 wrong usage, a file that can't be read, or a build that failed.
-root=$(cd "$(dirname "$0")" && pwd) || exit 3
-pair=$root/target/bin/pair
+"""Prints the proved reply for two loop programs; HELP says how it is called. `tengmua` starts it.
 
-fail() {
-    echo "tengmua: $1" >&2
-    exit 3
-}
+A reply is written only where both programs were read whole and `pair` gave exactly one whole line. Everything else is a line on
+standard error and status 3. `pair` is run from a private copy whose name holds the digest of the sources that it was proved from
+and the digest of its own bytes, so neither an old binary nor a damaged one answers.
+"""
+import codecs
+import contextlib
+import fcntl
+import hashlib
+import os
+import re
+import select
+import shutil
+import signal
+import stat
+import struct
+import subprocess
+import sys
+import time
 
-# A left file that is longer than its two bytes can say gets the largest length, which question 2 refuses as it would the file's.
-frame() {
-    n=$(wc -c < "$1")
-    [ "$n" -le 65535 ] || n=65535
-    printf "\\$(printf %03o $((n % 256)))\\$(printf %03o $((n / 256)))"
-    cat "$1" "$2"
-}
+HELP = """\
+tengmua: do two loop programs leave the same values?
 
-if [ $# -eq 2 ]; then
-    for file; do
-        [ -f "$file" ] && [ -r "$file" ] || fail "$file: can't be read"
-    done
-elif [ $# -ne 1 ] || [ "$1" != - ]; then
-    fail "usage: tengmua LEFT RIGHT, or tengmua - with a framed pair on standard input"
-fi
-if [ ! -x "$pair" ]; then
-    (cd "$root" && rt check pair) > "$root/target.log" 2>&1 || fail "rt check pair failed: see $root/target.log"
-    rm -f "$root/target.log"
-fi
-if [ "$1" = - ] && [ $# -eq 1 ]; then line=$("$pair"); else line=$(frame "$1" "$2" | "$pair"); fi
-echo "$line"
-case $line in
-    equal\ *) exit 0 ;;
-    differs\ *) exit 1 ;;
-    refused\ *) exit 2 ;;
-    *) fail "no reply" ;;
-esac
+  tengmua [--places] [--bytes] [--unproved] [--] LEFT RIGHT
+  tengmua [--unproved] -        a framed pair on standard input: the left's length in two bytes, the left, the right
+  tengmua --question N          what question N (1 to 26) asks, and what to do about a refusal
+  tengmua --help
+
+LEFT and RIGHT are program files (docs/FORMAT.md) or texts in the notation of separate/README.md. A file is a program file if it
+begins with ALP or holds a byte that no text holds; --bytes takes both as program files. A name that is one of the options stands
+behind --.
+
+One line goes to standard output:
+
+  equal N         the same value in all N compared elements, for every starting content and every meaning      status 0
+  differs A E     cell E of array A is the first that some content and meaning tell apart                      status 1
+  refused S K P   question K has a "no" for side S (left, right, both or input) at place P                     status 2
+
+Status 3: no reply, nothing on standard output, and a line on standard error that says why. Standard error also explains a
+reply: on `differs` the element with its subscripts, on `refused` the question and, for a text, the line and column.
+
+  --places        on `refused`, the line for a program file too, in the text that `separate dis --places` makes of it
+  --unproved      ask the separately written program, which is not proved but is built in seconds; each line on standard error
+                  says so
+
+The first call proves and builds what is missing, which takes some minutes.
+
+  $ ./tengmua examples/jacobi.txt examples/jacobi-tiled.txt
+  equal 32
+  $ ./tengmua examples/jacobi.alp examples/jacobi-wrong-skew.alp
+  differs 0 2
+"""
+
+ROOT = os.path.dirname(os.path.dirname(os.path.realpath(__file__)))
+KEPT = os.path.join(ROOT, 'target', 'tengmua')
+PROGRAM = 16384  # bytes of the longest program
+FRAMED = 32771  # bytes of standard input that decide the reply
+TEXT = 1 << 20  # bytes of the longest text that is taken
+NO_TEXT = re.compile(rb'[\x00-\x08\x0b\x0c\x0e-\x1f\x7f]')
+NUMBER = rb'(0|[1-9][0-9]*)'
+REPLY = re.compile(b'equal %s\n|differs %s %s\n|refused (left|right|both|input) %s %s\n' % ((NUMBER,) * 5))
+STATUS = {b'equal': 0, b'differs': 1, b'refused': 2}
+SIGNALS = (signal.SIGINT, signal.SIGTERM, signal.SIGHUP)
+TELL_EVERY = 20  # seconds between lines that say how far a build is
+GRACE = 3  # seconds that a build has to end before it is killed
+
+mark = b''  # what each line on standard error begins with
+
+
+class Failure(Exception):
+    """There is no reply; the message says why."""
+
+
+class Interrupted(BaseException):
+    """A signal asked this process to end."""
+
+
+# ---- what is said
+
+
+def tell(line):
+    with contextlib.suppress(OSError):
+        os.write(2, mark + line + b'\n')
+
+
+def say(message):
+    tell(b'tengmua: ' + message.encode('utf-8', 'backslashreplace'))
+
+
+def shown(name):
+    """A file's name on one line, in quotes where it is not plain."""
+    data = os.fsencode(name)
+    text = data.decode('utf-8', 'backslashreplace')
+    plain = ''.join(c if c.isprintable() else c.encode('unicode_escape').decode() for c in text)
+    return plain if plain and plain.strip().encode() == data else f"'{plain}'"
+
+
+def write_out(data):
+    try:
+        if os.write(1, data) == len(data):
+            return
+        why = 'not all of it was taken'
+    except OSError as error:
+        why = error.strerror
+    raise Failure(f'standard output: {why}')
+
+
+# ---- what is read
+
+
+def read_most(fd, most):
+    """All that is there, up to so many bytes."""
+    parts = []
+    while most > 0:
+        part = os.read(fd, min(most, 65536))
+        if not part:
+            break
+        parts.append(part)
+        most -= len(part)
+    return b''.join(parts)
+
+
+class File:
+    """A program as it was given: its bytes, and its text if it had one."""
+
+    def __init__(self, name, data, text=None):
+        self.name = name
+        self.bytes = data
+        self.text = text
+
+
+def read_file(name, as_bytes, pipes):
+    """Reads a file once. `pipes` holds the identities of those that were read before and can't be read again."""
+    try:
+        fd = os.open(name, os.O_RDONLY | os.O_CLOEXEC | os.O_NOCTTY)
+        try:
+            state = os.fstat(fd)
+            if stat.S_ISFIFO(state.st_mode) or stat.S_ISSOCK(state.st_mode) or os.isatty(fd):
+                if (state.st_dev, state.st_ino) in pipes:
+                    raise Failure(f'{shown(name)}: the same pipe as the left program, and it can be read only once')
+                pipes.add((state.st_dev, state.st_ino))
+            data = read_most(fd, PROGRAM + 1)
+            if not as_bytes and may_be_text(data):
+                data += read_most(fd, TEXT + 1 - len(data))
+        finally:
+            os.close(fd)
+    except OSError as error:
+        raise Failure(f'{shown(name)}: {error.strerror}') from None
+    if as_bytes or not is_text(data):
+        return File(name, data[:PROGRAM + 1])
+    if len(data) > TEXT:
+        raise Failure(f'{shown(name)}: a text of more than {TEXT} bytes')
+    return File(name, None, data)
+
+
+def may_be_text(data):
+    return not b'ALP'.startswith(data[:3]) and not NO_TEXT.search(data)
+
+
+def is_text(data):
+    """Whether a file is in the text notation: it has no byte that a text can't have, and no mark of a program file."""
+    if not may_be_text(data):
+        return False
+    try:
+        codecs.getincrementaldecoder('utf-8')().decode(data, len(data) <= TEXT)
+    except UnicodeDecodeError:
+        return False
+    return True
+
+
+# ---- what is built
+
+
+def digest_of(data):
+    return hashlib.sha256(data).hexdigest()
+
+
+def digest_of_files(paths, more=b''):
+    """Of names and contents."""
+    whole = hashlib.sha256(more)
+    for path in sorted(paths):
+        with open(os.path.join(ROOT, path), 'rb') as file:
+            whole.update(f'\0{digest_of(os.fsencode(path))} {digest_of(file.read())}'.encode())
+    return whole.hexdigest()
+
+
+def files_below(folder):
+    for at, _, names in os.walk(os.path.join(ROOT, folder), onerror=fail_with):
+        for name in names:
+            yield os.path.relpath(os.path.join(at, name), ROOT)
+
+
+def fail_with(error):
+    raise error
+
+
+def crates_of(name):
+    """The crate and all that it builds on, as crates.txt has them."""
+    with open(os.path.join(ROOT, 'crates.txt'), encoding='utf-8') as file:
+        rows = [line.split('#')[0].split(':') for line in file]
+    needs = {row[0].strip(): row[1].split() for row in rows if len(row) == 2}
+    found, todo = set(), [name]
+    while todo:
+        crate = todo.pop()
+        if crate in needs and crate not in found:
+            found.add(crate)
+            todo += needs[crate]
+    return sorted(found)
+
+
+def output_of(command):
+    """What a tool prints; it must be installed and end well."""
+    try:
+        done = subprocess.run(command, cwd=ROOT, stdin=subprocess.DEVNULL, capture_output=True, check=False)
+    except FileNotFoundError:
+        raise Failure(f'{command[0]} is not installed, or not on PATH (README.md, "What must be installed")') from None
+    if done.returncode != 0:
+        raise Failure(f'{" ".join(command)} failed with status {done.returncode}')
+    return done.stdout
+
+
+class Pair:
+    """The proved program."""
+    name = 'pair'
+
+    @staticmethod
+    def sources():
+        version = output_of(['rt', 'version'])
+        paths = ['crates.txt']
+        for crate in crates_of('pair'):
+            for part in ('src', 'specs', 'proofs'):
+                if os.path.isdir(os.path.join(ROOT, 'crates', crate, part)):
+                    paths += files_below(os.path.join('crates', crate, part))
+        return digest_of_files(paths, version)
+
+    @staticmethod
+    def build():
+        crates = crates_of('pair')
+        say(f'proving and building pair ({len(crates)} crates), which takes some minutes where nothing is proved yet;')
+        say('tengmua --unproved answers sooner, without a proof. The lines of the prover follow.')
+        built = os.path.join(ROOT, 'target', 'bin', 'pair')
+        # Without its stamp `rt` proves and links the program again, whatever stands in target/bin.
+        for path in (os.path.join(ROOT, 'target', 'stamp', 'pair'), built):
+            with contextlib.suppress(FileNotFoundError):
+                os.remove(path)
+        run_build(['rt', 'check', 'pair'], re.compile(rb'rt: \w+ proved'), len(crates))
+        return built
+
+
+class Separate:
+    """The separately written program: the assembler of texts, and the answer of --unproved."""
+    name = 'separate'
+
+    @staticmethod
+    def sources():
+        return digest_of_files(['separate/Cargo.toml', 'separate/Cargo.lock', *files_below('separate/src')])
+
+    @staticmethod
+    def build():
+        say('building the separately written program (separate), which takes some seconds; the lines of cargo follow.')
+        folder = os.path.join(KEPT, 'cargo')
+        shutil.rmtree(folder, ignore_errors=True)
+        run_build(['cargo', 'build', '--release', '--offline', '--manifest-path', 'separate/Cargo.toml', '--target-dir', folder])
+        return os.path.join(folder, 'release', 'separate')
+
+
+def program(kind):
+    """The path of a binary that was made from the sources as they are."""
+    sources = kind.sources()
+    path = kept(kind, sources)
+    if path is None:
+        with locked():
+            path = kept(kind, sources) or made(kind, sources)
+    return path
+
+
+def kept(kind, sources):
+    """The private copy, if its bytes are those that were kept."""
+    start = f'{kind.name}-{sources}-'
+    names = os.listdir(KEPT) if os.path.isdir(KEPT) else []
+    for name in names:
+        if name.startswith(start):
+            path = os.path.join(KEPT, name)
+            with open(path, 'rb') as file:
+                if name == start + digest_of(file.read()):
+                    return path
+    return None
+
+
+def made(kind, sources):
+    os.makedirs(KEPT, exist_ok=True)
+    built = kind.build()
+    if kind.sources() != sources:
+        raise Failure('the sources changed while they were being built: call again')
+    with open(built, 'rb') as file:
+        data = file.read()
+    for name in os.listdir(KEPT):
+        if name.startswith((kind.name + '-', 'new-')):
+            os.remove(os.path.join(KEPT, name))
+    new = os.path.join(KEPT, f'new-{kind.name}')
+    with open(new, 'wb') as file:
+        file.write(data)
+        os.fchmod(file.fileno(), 0o755)
+    path = os.path.join(KEPT, f'{kind.name}-{sources}-{digest_of(data)}')
+    os.rename(new, path)
+    shutil.rmtree(os.path.join(KEPT, 'cargo'), ignore_errors=True)
+    return path
+
+
+@contextlib.contextmanager
+def locked():
+    """One build at a time. The lock is on the repository's folder, so removing target/ does not free it."""
+    fd = os.open(ROOT, os.O_RDONLY | os.O_CLOEXEC)
+    try:
+        try:
+            fcntl.flock(fd, fcntl.LOCK_EX | fcntl.LOCK_NB)
+        except BlockingIOError:
+            say('another call is building; waiting for it')
+            fcntl.flock(fd, fcntl.LOCK_EX)
+        yield
+    finally:
+        os.close(fd)
+
+
+def run_build(command, step=None, steps=0):
+    """Runs a build in a session of its own, none of whose processes outlive this call."""
+    environment = {name: value for name, value in os.environ.items() if name != 'CDPATH'}
+    try:
+        child = subprocess.Popen(command, cwd=ROOT, env=environment, stdin=subprocess.DEVNULL, stdout=subprocess.PIPE,
+                                 stderr=subprocess.STDOUT, start_new_session=True)
+    except FileNotFoundError:
+        raise Failure(f'{command[0]} is not installed, or not on PATH (README.md, "What must be installed")') from None
+    guard, alive = guarded(child.pid)
+    try:
+        pass_on(child, step, steps)
+        wait_for(child, None)
+    finally:
+        end_group(child)
+        os.kill(guard, signal.SIGKILL)
+        os.waitpid(guard, 0)
+        os.close(alive)
+    if child.returncode != 0:
+        raise Failure(f'{" ".join(command[:2])} failed with status {child.returncode}: what it said is above')
+
+
+def guarded(group):
+    """A process that kills the group should this one be killed itself: then nobody holds the other end of its pipe."""
+    reader, writer = os.pipe()
+    guard = os.fork()
+    if guard == 0:
+        try:
+            os.setsid()
+            for number in SIGNALS:
+                signal.signal(number, signal.SIG_IGN)
+            os.close(writer)
+            os.read(reader, 1)
+            os.killpg(group, signal.SIGKILL)
+        finally:
+            os._exit(0)
+    os.close(reader)
+    return guard, writer
+
+
+def wait_for(child, seconds):
+    """Waits for the end of a child, which stays a zombie, so that its group's number is not given to others."""
+    until = None if seconds is None else time.monotonic() + seconds
+    while until is None or time.monotonic() < until:
+        options = os.WEXITED | os.WNOWAIT | (0 if until is None else os.WNOHANG)
+        if os.waitid(os.P_PID, child.pid, options) is not None:
+            return True
+        time.sleep(0.02)
+    return False
+
+
+def end_group(child):
+    with contextlib.suppress(ProcessLookupError):
+        if not wait_for(child, 0.01):
+            os.killpg(child.pid, signal.SIGTERM)
+            wait_for(child, GRACE)
+        os.killpg(child.pid, signal.SIGKILL)
+    child.stdout.close()
+    child.wait()
+
+
+def pass_on(child, step, steps):
+    """Each line of a build to standard error as it comes, and now and then how far it is."""
+    began = told = time.monotonic()
+    done, rest = 0, b''
+    while True:
+        ready, _, _ = select.select([child.stdout], [], [], 1)
+        if ready:
+            data = os.read(child.stdout.fileno(), 65536)
+            *lines, rest = (rest + data).split(b'\n')
+            for line in lines if data else filter(None, [rest]):
+                tell(line)
+                done += bool(step and step.match(line))
+                told = time.monotonic()
+            if not data:
+                return
+        elif wait_for(child, 0.01):
+            return
+        elif time.monotonic() - told > TELL_EVERY:
+            told = time.monotonic()
+            say(f'{told - began:.0f} s' + (f', {done} of {steps} crates proved' if steps else ''))
+
+
+# ---- what is asked
+
+
+def ran(path, words, data):
+    """Runs a binary of ours on some input; the environment has no say in it."""
+    return subprocess.run([path, *words], input=data, capture_output=True, env={}, cwd='/', check=False)
+
+
+def message_of(done):
+    """The first line that a program wrote to standard error."""
+    return done.stderr.split(b'\n')[0].decode('utf-8', 'replace') or f'status {done.returncode}'
+
+
+def assemble(file):
+    """Puts the bytes of a text in its place."""
+    done = ran(program(Separate), ['asm'], file.text)
+    if done.returncode != 0:
+        raise Failure(f'{shown(file.name)}: {message_of(done)}')
+    file.bytes = done.stdout[:PROGRAM + 1]
+
+
+def framed(left, right):
+    # A left program beyond its limit gets its length or the largest one that two bytes can say: question 2 refuses either.
+    return struct.pack('<H', min(len(left), 65535)) + left + right
+
+
+def ask(data, unproved):
+    """The line of the reply, or a failure."""
+    path, words = (program(Separate), ['pair']) if unproved else (program(Pair), [])
+    done = ran(path, words, data)
+    if done.returncode != 0 or not REPLY.fullmatch(done.stdout):
+        raise Failure(f'no reply from {os.path.basename(path).split("-")[0]}: {message_of(done)}')
+    return done.stdout
+
+
+# ---- what is explained
+
+
+class Names:
+    """What the arrays and operators of a program are called, and which line of its text a place is on."""
+
+    def __init__(self, file):
+        self.file = file
+        self.rows = []
+        if file.text is not None:
+            done = ran(program(Separate), ['asm', '--places'], file.text)
+            self.rows = [line.split('\t') for line in done.stdout.decode().splitlines()]
+
+    def at(self, place):
+        """Where a place is: in a text, at the last field that begins there or before."""
+        found = [row for row in self.rows if int(row[0]) <= place]
+        where = f'line {found[-1][1]}, column {found[-1][2]}' if found else f'place {place}'
+        return f'{shown(self.file.name)}: {where}'
+
+    def declared(self, what, number):
+        """Name and place in the text of a declared array or operator; without a text the names of `separate dis`."""
+        rows = [row for row in self.rows if row[3].startswith(what + ' ')]
+        if self.file.text is None:
+            return (chr(ord('A') + number) if what == 'role' else f'f{number}'), shown(self.file.name)
+        if number >= len(rows):
+            return None, shown(self.file.name)
+        return rows[number][3].split(' ')[1], f'{shown(self.file.name)}: line {rows[number][1]}, column {rows[number][2]}'
+
+
+def extents_of(data):
+    """The extents of each array of a program that was read."""
+    at = 6 + data[5]
+    arrays = []
+    for _ in range(data[at]):
+        dimensions = data[at + 2]
+        arrays.append(struct.unpack_from(f'<{dimensions}H', data, at + 3))
+        at += 2 + 2 * dimensions
+    return arrays
+
+
+def element(name, extents, cell):
+    subscripts = []
+    for extent in reversed(extents):
+        cell, last = divmod(cell, extent)
+        subscripts.insert(0, str(last))
+    return f'{name}[{", ".join(subscripts)}]'
+
+
+def explain_differs(array, cell, left, right):
+    extents = extents_of(left.bytes)[array]
+    names = [Names(file).declared('role', array)[0] for file in (left, right)]
+    both = [element(name, extents, cell) for name in names]
+    say(f'the first difference is in {both[0]}' + ('' if names[0] == names[1] else f' (on the right {both[1]})'))
+
+
+def explain_refused(side, number, place, files, places):
+    question = question_row(number)[1]
+    if side in ('left', 'right'):
+        file = files[side == 'right']
+        say(f'{Names(file).at(place)}: question {number}: {question}')
+        if places and file.text is None:
+            explain_place(file, place)
+        return
+    if number in (22, 23):
+        what, word = ('role', 'array') if number == 22 else ('arity', 'operator')
+        for file in files:
+            name, where = Names(file).declared(what, place)
+            say(f'{where}: {word} {place}' + (f', {name}' if name else ' is not there'))
+    say(f'question {number}: {question}')
+
+
+def explain_place(file, place):
+    """The line, of the text that `separate dis --places` makes of a program file, that holds a place."""
+    done = ran(program(Separate), ['dis', '--places'], file.bytes)
+    if done.returncode != 0:
+        say(f'{shown(file.name)}: place {place}: the file has no text, since it is refused while it is read')
+        return
+    for number, line in enumerate(done.stdout.decode().splitlines(), 1):
+        if line.endswith(f'# at {place}'):
+            text = line[:line.rindex('#')].strip()
+            say(f'{shown(file.name)}: place {place} is line {number} of its text (separate dis --places): {text}')
+
+
+def explain(line, files, places):
+    """What a reply says of the files, on standard error. A reply stands without it."""
+    words = line.decode().split()
+    try:
+        if words[0] == 'differs':
+            explain_differs(int(words[1]), int(words[2]), *files)
+        elif words[0] == 'refused':
+            explain_refused(words[1], int(words[2]), int(words[3]), files, places)
+    except (Failure, OSError, LookupError, struct.error, subprocess.SubprocessError) as error:
+        say(f'the reply can\'t be explained: {error}')
+
+
+def question_row(number):
+    """The cells of a question's row in docs/QUESTIONS.md."""
+    with open(os.path.join(ROOT, 'docs', 'QUESTIONS.md'), encoding='utf-8') as file:
+        for line in file:
+            cells = [cell.strip() for cell in line.strip().strip('|').split('|')]
+            if len(cells) == 5 and cells[0] == str(number):
+                return cells
+    raise Failure(f"'{number}' is no question: they have the numbers 1 to 26")
+
+
+def tell_question(word):
+    number, question, where, when, what = question_row(word)
+    write_out(f'{number}. {question}\n\nSide and place: {where}\nAsked: {when}\nWhat to do: {what}\n'.encode())
+
+
+# ---- the call
+
+
+class Call:
+    """The words of the command line."""
+
+    def __init__(self, words):
+        self.options = set()
+        self.question = None
+        while words and words[0] in ('--help', '--question', '--places', '--bytes', '--unproved'):
+            option = words.pop(0)
+            if option == '--question':
+                self.question = words.pop(0) if words else ''
+            self.options.add(option)
+        self.framed = words == ['-']
+        if words and words[0] == '--':
+            words.pop(0)
+        self.names = [] if self.framed else words
+        alone = self.options & {'--help', '--question'}
+        if len(self.options) > 1 and alone or (words if alone else not self.framed and len(words) != 2):
+            raise Failure('usage: tengmua LEFT RIGHT; tengmua --help says more')
+
+
+def framed_files(data):
+    """The two programs of a framed pair, as far as they are there."""
+    length = struct.unpack('<H', data[:2].ljust(2, b'\0'))[0]
+    left, right = data[2:2 + length], data[2 + length:]
+    return [File('standard input, left program', left), File('standard input, right program', right)]
+
+
+def reply(call):
+    """Reads, asks, writes the line and explains it; gives the status."""
+    global mark
+    if '--unproved' in call.options:
+        mark = b'NOT PROVED: '
+    if call.framed:
+        try:
+            data = read_most(0, FRAMED)
+        except OSError as error:
+            raise Failure(f'standard input: {error.strerror}') from None
+        files = framed_files(data)
+    else:
+        pipes = set()
+        files = [read_file(name, '--bytes' in call.options, pipes) for name in call.names]
+        for file in files:
+            if file.text is not None:
+                assemble(file)
+        data = framed(files[0].bytes, files[1].bytes)
+    line = ask(data, '--unproved' in call.options)
+    if mark:
+        say('this reply is of the separately written program')
+    write_out(line)
+    explain(line, files, '--places' in call.options)
+    return STATUS[line.split()[0]]
+
+
+def run():
+    call = Call(sys.argv[1:])
+    if '--help' in call.options:
+        write_out(HELP.encode())
+        return 0
+    if call.question is not None:
+        tell_question(call.question)
+        return 0
+    return reply(call)
+
+
+def open_standard():
+    """A closed standard input or error becomes an empty one, so that no file that is opened takes its number."""
+    try:
+        os.fstat(1)
+    except OSError:
+        raise Failure('standard output is closed') from None
+    for fd in (0, 2):
+        try:
+            os.fstat(fd)
+        except OSError:
+            other = os.open(os.devnull, os.O_RDWR)
+            if other != fd:
+                os.dup2(other, fd)
+
+
+def on_signal(number, _):
+    for each in SIGNALS:
+        signal.signal(each, signal.SIG_IGN)
+    raise Interrupted(number)
+
+
+def main():
+    """The status is 0 to 2 only for a reply that was written: what Python gives for an error of its own is 1."""
+    try:
+        for number in SIGNALS:
+            if signal.getsignal(number) != signal.SIG_IGN:
+                signal.signal(number, on_signal)
+        open_standard()
+        return run()
+    except Interrupted as interrupted:
+        say('interrupted')
+        signal.signal(interrupted.args[0], signal.SIG_DFL)
+        os.kill(os.getpid(), interrupted.args[0])
+    except Failure as failure:
+        say(str(failure))
+    except BaseException as error:  # pylint: disable=broad-except
+        say(f'{type(error).__name__}: {error}'.replace('\n', ' '))
+    return 3
+
+
+if __name__ == '__main__':
+    sys.exit(main())
