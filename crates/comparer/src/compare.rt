@@ -3,6 +3,10 @@ use crate::evaluate::apply_updates;
 use crate::evaluate::wide;
 use crate::reply::Reply;
 use crate::reply::Side;
+use model::sizes::CELL_WORDS;
+use model::sizes::HEADER_WORDS;
+use model::sizes::MOST_CELLS;
+use model::sizes::MOST_TERMS;
 use terms::Start;
 ghost use mathlib.Core.Path.{_≡_};
 ghost use Prim.Native.Nat.{_+_, _*_, _≤_, _<_};
@@ -11,10 +15,11 @@ ghost use lib.Dec.{leb};
 ghost use Rattle.terms.specs.Stored.{Starts};
 ghost use Rattle.comparer.specs.Comparing.{comparedAt, factorOf, sizeAt, Sums, Agrees, FirstCell, FirstArray};
 ghost use Rattle.comparer.specs.Matching.{Matches};
+ghost use Rattle.model.specs.Memory.{headerWords};
 
 // An out or inout array whose bit is set.
 fn is_compared(list: &[u32], mask: u16, array: usize) -> bool
-    requires { ⌜ (98 ≤ length (now list)) × (array < 16) ⌝ }
+    requires { ⌜ (headerWords ≤ length (now list)) × (array < 16) ⌝ }
     ensures { λ r. ⌜ r ≡ comparedAt (now (list .entry)) mask array ⌝ }
 {
     let bits = mask as usize >> array;
@@ -42,7 +47,7 @@ fn factor(used: bool, extent: u32) -> usize
 }
 
 fn size_of(list: &[u32], array: usize) -> usize
-    requires { ⌜ (98 ≤ length (now list)) × (array < 16) ⌝ }
+    requires { ⌜ (headerWords ≤ length (now list)) × (array < 16) ⌝ }
     ensures { λ r. ⌜ (r ≡ sizeAt (now (list .entry)) array) × (r ≤ 1073741824) ⌝ }
 {
     let at = 18 + 5 * array;
@@ -55,7 +60,7 @@ fn size_of(list: &[u32], array: usize) -> usize
 
 // The cells before each array.
 fn bases_of(list: &[u32]) -> [usize; 17]
-    requires { ⌜ 98 ≤ length (now list) ⌝ }
+    requires { ⌜ headerWords ≤ length (now list) ⌝ }
     ensures { λ r. ⌜ Sums (now (list .entry)) r ⌝ }
 {
     let mut bases: [usize; 17] = [0; 17];
@@ -143,7 +148,7 @@ fn first_array(
     right: &[u32],
     terms: &[u32],
 ) -> Reply
-    requires { ⌜ 98 ≤ length (now list) ⌝ }
+    requires { ⌜ headerWords ≤ length (now list) ⌝ }
     ensures { λ r. ⌜ FirstArray (now (list .entry)) mask (now (lefts .entry)) (now (rights .entry)) (now (left .entry)) (now (right .entry)) (now (terms .entry)) 0 0 r ⌝ }
 {
     let count = wide(list[17]);
@@ -178,23 +183,23 @@ pub(crate) fn match_lists(
     ensures { λ r. ⌜ Matches (now (left .entry)) (now (right .entry)) mask (now (cells .entry)) (now (terms .entry)) r ⌝ }
 {
     // 25 is asked before; what it refuses must not pass for equal.
-    if left.len() < 98 {
+    if left.len() < HEADER_WORDS {
         return Reply::Refused(Side::Both, 25, 0);
     }
-    if right.len() < 98 {
+    if right.len() < HEADER_WORDS {
         return Reply::Refused(Side::Both, 25, 0);
     }
-    if cells.len() < 4096 {
+    if cells.len() < CELL_WORDS {
         return Reply::Refused(Side::Both, 25, 0);
     }
     let lefts = bases_of(left);
     let rights = bases_of(right);
-    let n = apply_updates(left, &lefts, &mut cells[0..2048], terms, 0);
-    if n > 4096 {
+    let n = apply_updates(left, &lefts, &mut cells[0..MOST_CELLS], terms, 0);
+    if n > MOST_TERMS {
         return Reply::Refused(Side::Both, 24, 0);
     }
-    let k = apply_updates(right, &rights, &mut cells[2048..4096], terms, n);
-    if k > 4096 {
+    let k = apply_updates(right, &rights, &mut cells[MOST_CELLS..CELL_WORDS], terms, n);
+    if k > MOST_TERMS {
         return Reply::Refused(Side::Both, 24, 0);
     }
     first_array(
@@ -202,8 +207,8 @@ pub(crate) fn match_lists(
         mask,
         &lefts,
         &rights,
-        &cells[0..2048],
-        &cells[2048..4096],
+        &cells[0..MOST_CELLS],
+        &cells[MOST_CELLS..CELL_WORDS],
         terms,
     )
 }

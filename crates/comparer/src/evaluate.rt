@@ -1,9 +1,13 @@
 // Works out the updates of a list: each value as a term of the store.
+use model::sizes::CELL_WORDS;
+use model::sizes::HEADER_WORDS;
+use model::sizes::MOST_TERMS;
 use terms::Kept;
 ghost use mathlib.Core.Path.{_≡_};
 ghost use Prim.Native.Nat.{_+_, _≤_, _<_};
 ghost use lib.ListN.{length};
 ghost use Rattle.comparer.specs.Work.{Finds, Picks, Arity, Reads, Operates, Works, WorksLeaf, WorksAll, Applies};
+ghost use Rattle.model.specs.Memory.{headerWords};
 
 // The place past a tree, the number of terms, and the id plus 1. A number above 4,096: there is no room.
 struct Step {
@@ -41,11 +45,11 @@ fn slot(bases: &[usize; 17], array: u32, cell: u32) -> usize
 {
     let a = wide(array);
     if a >= 17 {
-        return 4096;
+        return CELL_WORDS;
     }
     let base = bases[a];
-    if base > 4096 {
-        return 4096;
+    if base > CELL_WORDS {
+        return CELL_WORDS;
     }
     base + wide(cell)
 }
@@ -109,7 +113,7 @@ fn leaf(
 
 // The header's word for this operator.
 fn arity(list: &[u32], operator: u32) -> usize
-    requires { ⌜ 98 ≤ length (now list) ⌝ }
+    requires { ⌜ headerWords ≤ length (now list) ⌝ }
     ensures { λ r. ⌜ Arity (now (list .entry)) operator r ⌝ }
 {
     let o = wide(operator);
@@ -133,7 +137,7 @@ fn pick(here: bool, id: u32, other: u32) -> u32
 fn operate(terms: &mut [u32], operator: u32, row: Row) -> Step
     ensures { λ r. ⌜ Operates (now (terms .entry)) operator (row .at) (row .count) (row .ids) (r .at) (r .count) (r .id) (now (terms .exit)) ⌝ }
 {
-    if row.count > 4096 {
+    if row.count > MOST_TERMS {
         return no_room();
     }
     let ids = row.ids;
@@ -155,7 +159,7 @@ fn node(
     count: u32,
     left: usize,
 ) -> Step
-    requires { ⌜ 98 ≤ length (now list) ⌝ }
+    requires { ⌜ headerWords ≤ length (now list) ⌝ }
     ensures { λ r. ⌜ Works (now (bases .entry)) (now (list .entry)) left at (now (cells .entry)) (now (terms .entry)) count (r .at) (r .count) (r .id) (now (cells .exit)) (now (terms .exit)) ⌝ }
 {
     if list.len() - 3 < at {
@@ -198,7 +202,7 @@ fn args(
     n: usize,
     ids: [u32; 4],
 ) -> Row
-    requires { ⌜ (98 ≤ length (now list)) × (n ≤ 4) ⌝ }
+    requires { ⌜ (headerWords ≤ length (now list)) × (n ≤ 4) ⌝ }
     ensures { λ r. ⌜ WorksAll (now (bases .entry)) (now (list .entry)) left at (now (cells .entry)) (now (terms .entry)) count k n ids (r .at) (r .count) (r .ids) (now (cells .exit)) (now (terms .exit)) ⌝ }
 {
     let mut at = at;
@@ -211,7 +215,7 @@ fn args(
     while k < n {
         let s = node(list, at, bases, cells, terms, count, left);
         count = s.count;
-        if count > 4096 {
+        if count > MOST_TERMS {
             return Row {
                 at,
                 count,
@@ -240,10 +244,10 @@ pub(crate) fn apply_updates(
     terms: &mut [u32],
     count: u32,
 ) -> u32
-    requires { ⌜ 98 ≤ length (now list) ⌝ }
+    requires { ⌜ headerWords ≤ length (now list) ⌝ }
     ensures { λ r. ⌜ Applies (now (bases .entry)) (now (list .entry)) 98 (now (cells .entry)) (now (terms .entry)) count r (now (cells .exit)) (now (terms .exit)) ⌝ }
 {
-    let mut at: usize = 98;
+    let mut at: usize = HEADER_WORDS;
     let mut n = count;
     while at <= list.len() - 3 {
         if list[at] != 1 {
@@ -251,7 +255,7 @@ pub(crate) fn apply_updates(
         }
         let k = slot(bases, list[at + 1], list[at + 2]);
         let s = node(list, at + 3, bases, cells, terms, n, 12);
-        if s.count > 4096 {
+        if s.count > MOST_TERMS {
             return 4097;
         }
         if k >= cells.len() {

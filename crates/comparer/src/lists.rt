@@ -5,6 +5,9 @@ use crate::reply::Side;
 use crate::tables::Tables;
 use crate::tables::tables_reply;
 use model::memory::clear;
+use model::sizes::CELL_WORDS;
+use model::sizes::LIST_WORDS;
+use model::sizes::TERM_WORDS;
 use unroller::Checked;
 use unroller::check_list;
 ghost use mathlib.Core.Path.{_≡_};
@@ -22,16 +25,16 @@ ghost use Rattle.comparer.specs.Headers.{Counted};
 pub(crate) fn long_enough(left: usize, right: usize, cells: usize, terms: usize) -> bool
     ensures { λ r. ⌜ r ≡ enough left right cells terms ⌝ }
 {
-    if left < 32768 {
+    if left < LIST_WORDS {
         return false;
     }
-    if right < 32768 {
+    if right < LIST_WORDS {
         return false;
     }
-    if cells < 4096 {
+    if cells < CELL_WORDS {
         return false;
     }
-    32768 <= terms
+    TERM_WORDS <= terms
 }
 
 // 22 to 24, of two lists that stand in their slices. Work memory may hold anything.

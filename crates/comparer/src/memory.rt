@@ -5,6 +5,8 @@ ghost use lib.ListN.{length};
 ghost use Rattle.model.specs.Memory.{cleared};
 ghost use Rattle.comparer.specs.Laying.{Ended, Empties};
 use model::memory::clear;
+use model::sizes::HEADER_WORDS;
+use model::sizes::USED_WORDS;
 
 // n words from `from` on.
 fn clear_words(list: &mut [u32], from: usize, n: usize)
@@ -24,9 +26,9 @@ fn clear_list(list: &mut [u32])
     requires { ⌜ Ended (now list) ⌝ }
     ensures { λ _. ⌜ now (list .exit) ≡ cleared (now (list .entry)) ⌝ }
 {
-    clear_words(list, 0, 98);
-    let mut at: usize = 98;
-    while at < 30818 {
+    clear_words(list, 0, HEADER_WORDS);
+    let mut at: usize = HEADER_WORDS;
+    while at < USED_WORDS {
         if list[at] == 0 {
             return;
         }

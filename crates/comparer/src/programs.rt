@@ -5,8 +5,13 @@ use crate::memory::clear_used;
 use crate::reply::Reply;
 use crate::reply::Side;
 use model::memory::clear;
+use model::sizes::MOST_BYTES;
 use unroller::Unrolled;
 use unroller::unroll;
+
+// The mask of the plain entry.
+const ALL_BITS: u16 = 65535;
+
 ghost use mathlib.Core.Path.{_≡_};
 ghost use mathlib.Core.Bool.{true};
 ghost use Prim.Native.Nat.{_≤_};
@@ -104,7 +109,7 @@ pub fn compare_programs(
         × (now (terms .exit) ≡ workLeft long (now (terms .entry)))
         ) ⌝ }
 {
-    compare_programs_masked(left, right, 65535, left_list, right_list, cells, terms)
+    compare_programs_masked(left, right, ALL_BITS, left_list, right_list, cells, terms)
 }
 
 fn wide(x: u8) -> usize
@@ -140,7 +145,7 @@ fn framed_reply(
         return unframed(Reply::Refused(Side::Input, 1, 0), left_list, right_list);
     }
     let n = wide(input[0]) + 256 * wide(input[1]);
-    if 16384 < n {
+    if MOST_BYTES < n {
         return unframed(Reply::Refused(Side::Left, 2, 0), left_list, right_list);
     }
     let end = 2 + n;
@@ -150,7 +155,7 @@ fn framed_reply(
     unrolled_reply(
         &input[2..end],
         &input[end..],
-        65535,
+        ALL_BITS,
         left_list,
         right_list,
         cells,

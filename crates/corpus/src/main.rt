@@ -1,5 +1,8 @@
 // Reads a stream of framed pairs (separate/README.md, "Streams") from standard input and prints the line of each.
 ghost use Prim.Native.Nat.{_≤_};
+use model::sizes::CELL_WORDS;
+use model::sizes::LIST_WORDS;
+use model::sizes::TERM_WORDS;
 
 fn main() {
     let mut turns: u32 = 0;
@@ -30,10 +33,10 @@ fn take(input: &mut [u8], n: usize) -> bool {
 }
 
 fn answer(input: &[u8]) {
-    let mut left_list = [0u32; 32768];
-    let mut right_list = [0u32; 32768];
-    let mut cells = [0u32; 4096];
-    let mut terms = [0u32; 32768];
+    let mut left_list = [0u32; LIST_WORDS];
+    let mut right_list = [0u32; LIST_WORDS];
+    let mut cells = [0u32; CELL_WORDS];
+    let mut terms = [0u32; TERM_WORDS];
     let reply = comparer::compare_input(
         input,
         &mut left_list,

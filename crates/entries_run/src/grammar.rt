@@ -13,9 +13,10 @@ use crate::numbers::say_small;
 use crate::numbers::wide;
 use crate::tabled::say_tables;
 use reader::Verdict;
+use reader::tables::FlatTables;
 
 // Over tables too.
-pub(crate) fn nested(entry: usize, x: Args, tables: &[usize; 115], s: &[u8]) {
+pub(crate) fn nested(entry: usize, x: Args, tables: &FlatTables, s: &[u8]) {
     if entry == 18 {
         say_field(reader::expressions::expression_end(s, x.a, tables, x.b));
     } else {

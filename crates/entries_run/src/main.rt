@@ -14,6 +14,7 @@ use crate::numbers::number_at;
 use crate::numbers::number_of;
 use crate::numbers::refused;
 use crate::numbers::wide;
+use reader::tables::FLAT;
 
 fn main() {
     let mut turns: u32 = 0;
@@ -98,7 +99,7 @@ fn with_tables(entry: usize, x: Args, s: &[u8]) {
         refused();
         return;
     }
-    let mut tables = [0usize; 115];
+    let mut tables = [0usize; FLAT];
     tabled::fill(&mut tables, s);
     if entry < 18 {
         tabled::called(entry, x, &tables);

@@ -4,17 +4,20 @@ use crate::numbers::low_byte;
 use crate::numbers::low_pair;
 use crate::numbers::number_at;
 use crate::numbers::say;
+use reader::tables::BASES;
+use reader::tables::FLAT;
+use reader::tables::FlatTables;
 use reader::tables::Tables;
 
-pub(crate) fn fill(tables: &mut [usize; 115], s: &[u8]) {
+pub(crate) fn fill(tables: &mut FlatTables, s: &[u8]) {
     let mut k: usize = 0;
-    while k < 115 {
+    while k < FLAT {
         tables[k] = number_at(s, 8 * k);
         k += 1;
     }
 }
 
-pub(crate) fn called(entry: usize, x: Args, tables: &[usize; 115]) {
+pub(crate) fn called(entry: usize, x: Args, tables: &FlatTables) {
     match entry {
         10 => {
             say(reader::tables::operator_count(tables));
@@ -49,16 +52,16 @@ pub(crate) fn say_tables(tables: Tables) {
     say_row(&row);
 }
 
-fn say_row(row: &[usize; 115]) {
+fn say_row(row: &FlatTables) {
     let mut k: usize = 0;
-    while k < 115 {
+    while k < FLAT {
         say(row[k]);
         k += 1;
     }
 }
 
 // Tables by value, of the lower bytes of these numbers.
-fn packed(tables: &[usize; 115]) -> Tables {
+fn packed(tables: &FlatTables) -> Tables {
     Tables {
         operators: tables[0],
         arities: bytes(tables, 1),
@@ -71,11 +74,11 @@ fn packed(tables: &[usize; 115]) -> Tables {
 }
 
 // Beyond the last number 0.
-fn nth(tables: &[usize; 115], k: usize) -> usize {
-    if k < 115 { tables[k] } else { 0 }
+fn nth(tables: &FlatTables, k: usize) -> usize {
+    if k < FLAT { tables[k] } else { 0 }
 }
 
-fn bytes(tables: &[usize; 115], from: usize) -> [u8; 16] {
+fn bytes(tables: &FlatTables, from: usize) -> [u8; 16] {
     let mut r = [0u8; 16];
     if from > 99 {
         return r;
@@ -88,7 +91,7 @@ fn bytes(tables: &[usize; 115], from: usize) -> [u8; 16] {
     r
 }
 
-fn extents(tables: &[usize; 115]) -> [u16; 48] {
+fn extents(tables: &FlatTables) -> [u16; 48] {
     let mut r = [0u16; 48];
     let mut k: usize = 0;
     while k < 48 {
@@ -98,11 +101,11 @@ fn extents(tables: &[usize; 115]) -> [u16; 48] {
     r
 }
 
-fn bases(tables: &[usize; 115]) -> [usize; 17] {
+fn bases(tables: &FlatTables) -> [usize; 17] {
     let mut r = [0usize; 17];
     let mut k: usize = 0;
     while k < 17 {
-        r[k] = tables[98 + k];
+        r[k] = tables[BASES + k];
         k += 1;
     }
     r

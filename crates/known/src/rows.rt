@@ -1,4 +1,5 @@
 // The known programs: paper 01's table where it is decided by reading, and each question's corners.
+use model::sizes::MOST_BYTES;
 use reader::Verdict;
 
 fn case(name: &[u8], program: &[u8]) {
@@ -256,7 +257,7 @@ pub(crate) fn ends() {
 
 // 16,384 bytes are read; one more is too many.
 pub(crate) fn lengths() {
-    let most = [0x41u8; 16384];
+    let most = [0x41u8; MOST_BYTES];
     case(b"16384 bytes", &most);
     let more = [0x41u8; 16385];
     case(b"16385 bytes", &more);

@@ -1,9 +1,11 @@
 // How many updates and nodes a program gives.
 ghost use Prim.Native.Nat.{_≤_};
+use model::sizes::HEADER_WORDS;
+use model::sizes::LIST_WORDS;
 use unroller::Unrolled;
 
 fn case(name: &[u8], program: &[u8]) {
-    let mut list = [0u32; 32768];
+    let mut list = [0u32; LIST_WORDS];
     io::write_all(1, name);
     match unroller::unroll(program, &mut list) {
         Unrolled::Updates(n) => {
@@ -27,7 +29,7 @@ fn one_node(code: u32) -> usize
 }
 
 fn nodes(list: &[u32]) -> usize {
-    let mut at: usize = 98;
+    let mut at: usize = HEADER_WORDS;
     let mut n: usize = 0;
     while at < list.len() {
         n += one_node(list[at]);

@@ -1,5 +1,7 @@
 // Reads a stream of list pairs (separate/README.md, "Streams") from standard input and prints the line of each.
 ghost use Prim.Native.Nat.{_≤_};
+use model::sizes::CELL_WORDS;
+use model::sizes::TERM_WORDS;
 
 fn main() {
     let mut turns: u32 = 0;
@@ -73,8 +75,8 @@ fn answer(left: &[u32], one: usize, right: &[u32], other: usize, mask: u16) {
     if other > right.len() {
         return;
     }
-    let mut cells = [0u32; 4096];
-    let mut terms = [0u32; 32768];
+    let mut cells = [0u32; CELL_WORDS];
+    let mut terms = [0u32; TERM_WORDS];
     let reply = comparer::compare_lists(
         &left[0..one],
         &right[0..other],

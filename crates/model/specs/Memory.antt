@@ -8,6 +8,10 @@ use Rattle.model.specs.Test.{if_then_else_}
 abbrev pub listWords : ℕ
 listWords = 32768
 
+-- of these, the words before the first record
+abbrev pub headerWords : ℕ
+headerWords = 98
+
 abbrev pub cellWords : ℕ
 cellWords = 4096
 

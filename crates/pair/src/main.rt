@@ -1,5 +1,8 @@
 // Reads a framed pair of programs from standard input and prints the line of the reply. One byte more than the longest pair
 // has is read: what follows it changes no reply (`InputCut`). Where a read fails there is no reply, only a line on standard error.
+use model::sizes::CELL_WORDS;
+use model::sizes::LIST_WORDS;
+use model::sizes::TERM_WORDS;
 use source::Got;
 
 fn main() {
@@ -18,10 +21,10 @@ fn main() {
 }
 
 fn answer(input: &[u8]) {
-    let mut left_list = [0u32; 32768];
-    let mut right_list = [0u32; 32768];
-    let mut cells = [0u32; 4096];
-    let mut terms = [0u32; 32768];
+    let mut left_list = [0u32; LIST_WORDS];
+    let mut right_list = [0u32; LIST_WORDS];
+    let mut cells = [0u32; CELL_WORDS];
+    let mut terms = [0u32; TERM_WORDS];
     let reply = comparer::compare_input(
         input,
         &mut left_list,

@@ -13,6 +13,7 @@ use crate::fields::byte_at;
 use crate::fields::index_at;
 use crate::fields::name_at;
 use crate::forms::form_end;
+use crate::tables::FlatTables;
 use crate::tables::arity_of;
 use crate::tables::array_count;
 use crate::tables::dimensions_of;
@@ -58,7 +59,7 @@ fn one_node(end: Place) -> Field
     }
 }
 
-fn read_end(s: &[u8], at: usize, tables: &[usize; 115], loops: usize) -> Field
+fn read_end(s: &[u8], at: usize, tables: &FlatTables, loops: usize) -> Field
     ensures { λ r. ⌜ fieldSays r ≡ through count (readOf (tablesIn (now (tables .entry))) loops (now (s .entry)) at) ⌝ }
 {
     match index_at(s, at, array_count(tables)) {
@@ -72,13 +73,13 @@ fn read_end(s: &[u8], at: usize, tables: &[usize; 115], loops: usize) -> Field
     }
 }
 
-fn literal_end(s: &[u8], at: usize, tables: &[usize; 115], loops: usize) -> Field
+fn literal_end(s: &[u8], at: usize, tables: &FlatTables, loops: usize) -> Field
     ensures { λ r. ⌜ fieldSays r ≡ through count (literalOf (tablesIn (now (tables .entry))) loops (now (s .entry)) at) ⌝ }
 {
     one_node(form_end(s, at, loops))
 }
 
-fn constant_end(s: &[u8], at: usize, tables: &[usize; 115], loops: usize) -> Field
+fn constant_end(s: &[u8], at: usize, tables: &FlatTables, loops: usize) -> Field
     ensures { λ r. ⌜ fieldSays r ≡ through count (constantOf (tablesIn (now (tables .entry))) loops (now (s .entry)) at) ⌝ }
 {
     match name_at(s, at) {
@@ -93,7 +94,7 @@ fn leaf_end(
     at: usize,
     code: usize,
     next: usize,
-    tables: &[usize; 115],
+    tables: &FlatTables,
     loops: usize,
 ) -> Field
     ensures { λ r. ⌜ fieldSays r ≡ through count (leafOf (tablesIn (now (tables .entry))) loops code at (now (s .entry)) next) ⌝ }
@@ -107,7 +108,7 @@ fn leaf_end(
 }
 
 // The arity of the operator whose code stands at `code`, and the place behind its number. 12 is asked before that is read.
-fn operator_at(s: &[u8], code: usize, at: usize, tables: &[usize; 115], left: usize) -> Field
+fn operator_at(s: &[u8], code: usize, at: usize, tables: &FlatTables, left: usize) -> Field
     ensures { λ r. ⌜ fieldSays r ≡ arityOf (tablesIn (now (tables .entry))) left code (now (s .entry)) at ⌝ }
 {
     if left == 0 {
@@ -121,7 +122,7 @@ fn operator_at(s: &[u8], code: usize, at: usize, tables: &[usize; 115], left: us
 
 // A node at `at`, in which operators may nest `left` deep: its nodes and its end. It and `args` call each other. What falls: an
 // operator takes two bytes and a level of nesting from its arguments, an argument a byte at least from those that remain.
-fn node(s: &[u8], at: usize, tables: &[usize; 115], loops: usize, left: usize) -> Field
+fn node(s: &[u8], at: usize, tables: &FlatTables, loops: usize, left: usize) -> Field
     ensures { λ r. ⌜ fieldSays r ≡ through count (nodeOf (tablesIn (now (tables .entry))) loops (applied (tablesIn (now (tables .entry))) loops left) (now (s .entry)) at) ⌝ }
 {
     match byte_at(s, at) {
@@ -142,7 +143,7 @@ fn node(s: &[u8], at: usize, tables: &[usize; 115], loops: usize, left: usize) -
 }
 
 // The n arguments that remain: the nodes of all, and their end. The last needs no further call.
-fn args(s: &[u8], at: usize, tables: &[usize; 115], loops: usize, left: usize, n: usize) -> Field
+fn args(s: &[u8], at: usize, tables: &FlatTables, loops: usize, left: usize, n: usize) -> Field
     ensures { λ r. ⌜ fieldSays r ≡ through counts (times noArgs moreArgs (nodeOf (tablesIn (now (tables .entry))) loops (applied (tablesIn (now (tables .entry))) loops left)) n (now (s .entry)) at) ⌝ }
 {
     if n == 0 {
@@ -164,14 +165,14 @@ fn args(s: &[u8], at: usize, tables: &[usize; 115], loops: usize, left: usize, n
 
 // The expression at `at`: the number of its nodes and the place past it. It is read as a single argument, so that `node` is called
 // from one place.
-pub(crate) fn expression_past(s: &[u8], at: usize, tables: &[usize; 115], loops: usize) -> Field
+pub(crate) fn expression_past(s: &[u8], at: usize, tables: &FlatTables, loops: usize) -> Field
     ensures { λ r. ⌜ fieldSays r ≡ through count (expression (tablesIn (now (tables .entry))) loops (now (s .entry)) at) ⌝ }
 {
     args(s, at, tables, loops, 12, 1)
 }
 
 // The same inside any number of loops; beyond 8 it is 12.
-pub fn expression_end(s: &[u8], at: usize, tables: &[usize; 115], loops: usize) -> Field
+pub fn expression_end(s: &[u8], at: usize, tables: &FlatTables, loops: usize) -> Field
     ensures { λ r. ⌜ fieldSays r ≡ through count (expressionStep (tablesIn (now (tables .entry))) loops (now (s .entry)) at) ⌝ }
 {
     if loops > 8 {

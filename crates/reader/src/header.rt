@@ -17,6 +17,8 @@ use crate::fields::Place;
 use crate::fields::Width;
 use crate::tables::Tables;
 use crate::tables::TablesRead;
+use model::sizes::MOST_BYTES;
+use model::sizes::MOST_CELLS;
 
 // The mark `ALP` and version 1.
 fn head_end(s: &[u8], at: usize) -> Place
@@ -206,7 +208,7 @@ fn array_at(s: &[u8], at: usize, after: bool, before: usize) -> ArrayRead
                 match answer {
                     Place::Not(number, place) => no_array(number, place),
                     Place::Next(end) => {
-                        if before + size <= 2048 {
+                        if before + size <= MOST_CELLS {
                             ArrayRead {
                                 answer: Place::Next(end),
                                 role,
@@ -334,7 +336,7 @@ fn arrays_of(s: &[u8], at: usize, operators: usize, arities: [u8; 16]) -> Tables
 pub fn tables_of(program: &[u8]) -> TablesRead
     ensures { λ r. ⌜ TablesAre (tablesStep (now (program .entry))) r ⌝ }
 {
-    if 16384 < program.len() {
+    if MOST_BYTES < program.len() {
         return no_tables(2, 0);
     }
     match head_end(program, 0) {

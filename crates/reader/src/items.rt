@@ -15,6 +15,7 @@ use crate::fields::Signed;
 use crate::fields::index_at;
 use crate::fields::step_at;
 use crate::forms::form_end;
+use crate::tables::FlatTables;
 use crate::tables::array_count;
 use crate::tables::dimensions_of;
 use crate::tables::role_of;
@@ -30,7 +31,7 @@ fn past(field: Field) -> Place
 }
 
 // What follows a statement's code, wherever that stands.
-fn statement_end(s: &[u8], at: usize, tables: &[usize; 115], loops: usize) -> Place
+fn statement_end(s: &[u8], at: usize, tables: &FlatTables, loops: usize) -> Place
     ensures { λ r. ⌜ ((p : ℕ) → placeSays r ≡ ended (statementOf (tablesIn (now (tables .entry))) loops p (now (s .entry)) at)) ⌝ }
 {
     match index_at(s, at, array_count(tables)) {
@@ -64,7 +65,7 @@ fn loop_head_end(s: &[u8], at: usize, loops: usize) -> Place
 }
 
 // The items from `at` on, inside so many loops, where loops and guards may still nest `left` deep.
-fn run(s: &[u8], at: usize, tables: &[usize; 115], left: usize, loops: usize) -> Place
+fn run(s: &[u8], at: usize, tables: &FlatTables, left: usize, loops: usize) -> Place
     requires { ⌜ loops + left ≤ 8 ⌝ }
     ensures { λ r. ⌜ placeSays r ≡ ended (body (tablesIn (now (tables .entry))) (length (now (s .entry))) left loops (now (s .entry)) at) ⌝ }
 {
@@ -87,7 +88,7 @@ fn run(s: &[u8], at: usize, tables: &[usize; 115], left: usize, loops: usize) ->
 }
 
 // What follows an item's code, which stands at `at`.
-fn item(s: &[u8], at: usize, code: u8, tables: &[usize; 115], left: usize, loops: usize) -> Place
+fn item(s: &[u8], at: usize, code: u8, tables: &FlatTables, left: usize, loops: usize) -> Place
     requires { ⌜ (loops + left ≤ 8) × (at < length (now s)) ⌝ }
     ensures { λ r. ⌜ placeSays r ≡ ended (itemOf (tablesIn (now (tables .entry))) (length (now (s .entry))) (nested (tablesIn (now (tables .entry))) (length (now (s .entry))) left loops) loops code at (now (s .entry)) (at + 1)) ⌝ }
 {
@@ -100,7 +101,7 @@ fn item(s: &[u8], at: usize, code: u8, tables: &[usize; 115], left: usize, loops
 }
 
 // What follows the code of a loop (2) or a guard (3) at `at`: its forms, and a run of its own.
-fn around(s: &[u8], at: usize, code: u8, tables: &[usize; 115], left: usize, loops: usize) -> Place
+fn around(s: &[u8], at: usize, code: u8, tables: &FlatTables, left: usize, loops: usize) -> Place
     requires { ⌜ (loops + left ≤ 8) × (at < length (now s)) ⌝ }
     ensures { λ r. ⌜ placeSays r ≡ ended (nested (tablesIn (now (tables .entry))) (length (now (s .entry))) left loops code at (now (s .entry)) (at + 1)) ⌝ }
 {
@@ -121,7 +122,7 @@ fn around(s: &[u8], at: usize, code: u8, tables: &[usize; 115], left: usize, loo
 }
 
 // The end of a run of items inside so many loops, where loops and guards may still nest `left` deep. More than 8 together is 12.
-pub fn items_end(s: &[u8], at: usize, tables: &[usize; 115], left: usize, loops: usize) -> Place
+pub fn items_end(s: &[u8], at: usize, tables: &FlatTables, left: usize, loops: usize) -> Place
     ensures { λ r. ⌜ placeSays r ≡ ended (itemsStep (tablesIn (now (tables .entry))) left loops (now (s .entry)) at) ⌝ }
 {
     if 8 < left {

@@ -9,6 +9,13 @@ ghost use Rattle.reader.specs.Entries.{cut, viewed, tablesIn, flattened}
 use crate::fields::Place;
 use crate::fields::wide;
 
+// Numbers of tables that are lent as one array (`viewed` says which stand where), and where the bases begin.
+pub const FLAT: usize = 115;
+
+pub const BASES: usize = 98;
+
+pub type FlatTables = [usize; FLAT];
+
 // Entries beyond the counts are 0. The extents of array a stand at 3a; bases[a] is the number of cells before array a,
 // bases[arrays] that of all.
 pub struct Tables {
@@ -33,7 +40,7 @@ fn wide_word(x: u16) -> usize
     x as usize
 }
 
-fn put_bytes(r: &mut [usize; 115], to: usize, from: [u8; 16])
+fn put_bytes(r: &mut FlatTables, to: usize, from: [u8; 16])
     requires { ⌜ to + 16 ≤ 115 ⌝ }
     ensures { λ _. ⌜ now (r .exit) ≡ sets (now (r .entry)) to (cut 16 0 from) ⌝ }
 {
@@ -44,7 +51,7 @@ fn put_bytes(r: &mut [usize; 115], to: usize, from: [u8; 16])
     }
 }
 
-fn put_extents(r: &mut [usize; 115], from: [u16; 48])
+fn put_extents(r: &mut FlatTables, from: [u16; 48])
     ensures puts { λ _. ⌜ now (r .exit) ≡ sets (now (r .entry)) 50 (cut 48 0 from) ⌝ }
     ensures small { λ _. ⌜ ((i : ℕ) → i < 48 → getD from i 0 < 65536) ⌝ }
 {
@@ -55,18 +62,18 @@ fn put_extents(r: &mut [usize; 115], from: [u16; 48])
     }
 }
 
-fn put_bases(r: &mut [usize; 115], from: [usize; 17])
+fn put_bases(r: &mut FlatTables, from: [usize; 17])
     ensures { λ _. ⌜ now (r .exit) ≡ sets (now (r .entry)) 98 (cut 17 0 from) ⌝ }
 {
     let mut k: usize = 0;
     while k < 17 {
-        r[98 + k] = from[k];
+        r[BASES + k] = from[k];
         k += 1;
     }
 }
 
 // The tables as 115 numbers (`viewed` says which stand where): lent, they cost no copy at a call.
-pub fn flat(tables: Tables) -> [usize; 115]
+pub fn flat(tables: Tables) -> FlatTables
     ensures numbers { λ r. ⌜ r ≡ flattened «tables» ⌝ }
     ensures small { λ _. ⌜ ((i : ℕ) → i < 48 → getD («tables» .extents) i 0 < 65536) ⌝ }
 {
@@ -75,7 +82,7 @@ pub fn flat(tables: Tables) -> [usize; 115]
     let dimensions = tables.dimensions;
     let extents = tables.extents;
     let bases = tables.bases;
-    let mut r = [0usize; 115];
+    let mut r = [0usize; FLAT];
     r[0] = tables.operators;
     put_bytes(&mut r, 1, arities);
     r[17] = tables.arrays;
@@ -92,20 +99,20 @@ fn at_most(n: usize, most: usize) -> usize
     if n < most { n } else { most }
 }
 
-pub fn operator_count(tables: &[usize; 115]) -> usize
+pub fn operator_count(tables: &FlatTables) -> usize
     ensures { λ r. ⌜ r ≡ length (tablesIn (now (tables .entry)) .arities) ⌝ }
 {
     at_most(tables[0], 16)
 }
 
-pub fn array_count(tables: &[usize; 115]) -> usize
+pub fn array_count(tables: &FlatTables) -> usize
     ensures { λ r. ⌜ r ≡ length (tablesIn (now (tables .entry)) .arrays) ⌝ }
 {
     at_most(tables[17], 16)
 }
 
 // The arity of an operator; 0 where it is not declared.
-pub fn arity_of(tables: &[usize; 115], operator: usize) -> usize
+pub fn arity_of(tables: &FlatTables, operator: usize) -> usize
     ensures { λ r. ⌜ r ≡ getD (tablesIn (now (tables .entry)) .arities) operator 0 ⌝ }
 {
     if operator < operator_count(tables) {
@@ -116,7 +123,7 @@ pub fn arity_of(tables: &[usize; 115], operator: usize) -> usize
 }
 
 // The role of an array; an undeclared one counts as a local.
-pub fn role_of(tables: &[usize; 115], array: usize) -> usize
+pub fn role_of(tables: &FlatTables, array: usize) -> usize
     ensures { λ r. ⌜ r ≡ arrayAt (tablesIn (now (tables .entry)) .arrays) array .role ⌝ }
 {
     if array < array_count(tables) {
@@ -127,7 +134,7 @@ pub fn role_of(tables: &[usize; 115], array: usize) -> usize
 }
 
 // The number of an array's dimensions; an undeclared one has one.
-pub fn dimensions_of(tables: &[usize; 115], array: usize) -> usize
+pub fn dimensions_of(tables: &FlatTables, array: usize) -> usize
     ensures { λ r. ⌜ r ≡ length (arrayAt (tablesIn (now (tables .entry)) .arrays) array .extents) ⌝ }
 {
     if array < array_count(tables) {
@@ -138,7 +145,7 @@ pub fn dimensions_of(tables: &[usize; 115], array: usize) -> usize
 }
 
 // 0 where the array is not declared, or has fewer dimensions.
-pub fn extent_of(tables: &[usize; 115], array: usize, dimension: usize) -> usize
+pub fn extent_of(tables: &FlatTables, array: usize, dimension: usize) -> usize
     ensures { λ r. ⌜ (r ≡ getD (arrayAt (tablesIn (now (tables .entry)) .arrays) array .extents) dimension 0) × (r < 65536) ⌝ }
 {
     if array < array_count(tables) {
@@ -150,8 +157,8 @@ pub fn extent_of(tables: &[usize; 115], array: usize, dimension: usize) -> usize
 }
 
 // The number of cells before an array; 0 for one beyond the last.
-pub fn base_of(tables: &[usize; 115], array: usize) -> usize
+pub fn base_of(tables: &FlatTables, array: usize) -> usize
     ensures { λ r. ⌜ r ≡ getD (viewed (now (tables .entry)) .bases) array 0 ⌝ }
 {
-    if array < 17 { tables[98 + array] } else { 0 }
+    if array < 17 { tables[BASES + array] } else { 0 }
 }

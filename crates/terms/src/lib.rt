@@ -4,6 +4,9 @@ ghost use Prim.Native.Nat.{_+_, _*_, _<_, _≤_};
 ghost use lib.ListN.{length};
 ghost use Rattle.terms.specs.Mix.{eightfoldOf, stepOf, bucketOf};
 ghost use Rattle.terms.specs.Store.{nodeOf, nodeAt, eqNode, written, linkedIn, findOf, saysOf, startSays, out, internOf, keptOf, startsAt};
+ghost use Rattle.model.specs.Memory.{termWords};
+use model::sizes::MOST_TERMS;
+use model::sizes::TERM_WORDS;
 
 // The words of a term: kind, payload and four arguments, each an id plus 1, or 0 where there is none.
 pub struct Node {
@@ -120,7 +123,7 @@ fn write(memory: &mut [u32], i: usize, node: Node)
 
 // Writes a node at id `count`, in front of the chain of bucket `b`, which began with `start`.
 fn append(memory: &mut [u32], count: u32, b: usize, start: u32, node: Node)
-    requires { ⌜ (count < 4096) × (b < 4096) × (32768 ≤ length (now memory)) ⌝ }
+    requires { ⌜ (count < 4096) × (b < 4096) × (termWords ≤ length (now memory)) ⌝ }
     ensures { λ _. ⌜ now (memory .exit) ≡ linkedIn (now (memory .entry)) count b start node ⌝ }
 {
     let i = wide(count);
@@ -131,7 +134,7 @@ fn append(memory: &mut [u32], count: u32, b: usize, start: u32, node: Node)
 
 // Links of a store go down, so what is still to be met lies below `top`; a cursor that does not ends the walk.
 fn find(memory: &[u32], start: u32, count: u32, node: Node) -> Found
-    requires { ⌜ (count ≤ 4096) × (32768 ≤ length (now memory)) ⌝ }
+    requires { ⌜ (count ≤ 4096) × (termWords ≤ length (now memory)) ⌝ }
     ensures { λ r. ⌜ r ≡ findOf (now (memory .entry)) start count node ⌝ }
 {
     let mut at = start;
@@ -156,10 +159,10 @@ fn find(memory: &[u32], start: u32, count: u32, node: Node) -> Found
 pub fn intern(memory: &mut [u32], count: u32, node: Node) -> Interned
     ensures { λ r. ⌜ out (saysOf r) (now (memory .exit)) ≡ internOf (now (memory .entry)) count node ⌝ }
 {
-    if memory.len() < 32768 {
+    if memory.len() < TERM_WORDS {
         return Interned::Short;
     }
-    if count > 4096 {
+    if count > MOST_TERMS {
         return Interned::Full;
     }
     let b = bucket(node);
@@ -171,7 +174,7 @@ pub fn intern(memory: &mut [u32], count: u32, node: Node) -> Interned
             id: r,
         }),
         Found::Missing => {
-            if count >= 4096 {
+            if count >= MOST_TERMS {
                 return Interned::Full;
             }
             append(memory, count, b, start, node);
@@ -214,13 +217,13 @@ pub fn put(memory: &mut [u32], count: u32, kind: u32, payload: u32, ids: [u32; 4
 pub fn is_start(memory: &[u32], r: u32, a: u32, c: u32) -> Start
     ensures { λ s. ⌜ startSays s ≡ startsAt (now (memory .entry)) r a c ⌝ }
 {
-    if memory.len() < 32768 {
+    if memory.len() < TERM_WORDS {
         return Start::Short;
     }
     if r == 0 {
         return Start::No;
     }
-    if r > 4096 {
+    if r > MOST_TERMS {
         return Start::No;
     }
     let node = Node {

@@ -1,5 +1,7 @@
 // Fills the store, asks for every term again, asks for one more; with names in a row, then with names that all fall into one bucket.
 use libc::STDOUT_FILENO;
+use model::sizes::MOST_TERMS;
+use model::sizes::TERM_WORDS;
 use terms::Interned;
 use terms::Node;
 use terms::Start;
@@ -101,7 +103,7 @@ fn ask_start(memory: &[u32], r: u32, a: u32, c: u32) {
 
 fn ask_put(memory: &mut [u32], count: u32, name: u32) {
     let kept = terms::put(memory, count, 19, name, [0; 4]);
-    if kept.count > 4096 {
+    if kept.count > MOST_TERMS {
         say(b"refused", kept.id);
     } else {
         say(b"id", kept.id);
@@ -142,7 +144,7 @@ fn short(memory: &mut [u32]) {
 // Too little memory; more terms than a store holds; chains that go round.
 fn main() {
     let mut few = [0u32; 8];
-    let mut memory = [9u32; 32768];
+    let mut memory = [9u32; TERM_WORDS];
     short(&mut few);
     ask(&mut memory, 4097, 0);
     ask_put(&mut memory, 4097, 0);

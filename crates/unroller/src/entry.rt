@@ -4,10 +4,13 @@ ghost use Prim.Native.Nat.{_≤_};
 ghost use lib.ListN.{length};
 ghost use Rattle.unroller.specs.Unroll.{unrollReply, unrollLeaves};
 ghost use Rattle.unroller.specs.UnrollAnswers.{unrolledSays, Unrolls};
+ghost use Rattle.model.specs.Memory.{listWords};
 use crate::header::header;
 use crate::items::items;
 use crate::walk::Walk;
 use model::memory::clear;
+use model::sizes::LIST_WORDS;
+use model::sizes::MOST_CELLS;
 use reader::Verdict;
 use reader::fields::Place;
 use reader::header::tables_of;
@@ -23,7 +26,7 @@ pub enum Unrolled {
 
 // An accepted program, into a cleared list. On a refusal the list is cleared again.
 fn run(program: &[u8], list: &mut [u32]) -> Unrolled
-    requires { ⌜ 32768 ≤ length (now list) ⌝ }
+    requires { ⌜ listWords ≤ length (now list) ⌝ }
     ensures { λ r. ⌜ Unrolls (now (program .entry)) (now (list .entry)) r (now (list .exit)) ⌝ }
 {
     let read = tables_of(program);
@@ -34,7 +37,7 @@ fn run(program: &[u8], list: &mut [u32]) -> Unrolled
         Place::Next(first) => {
             header(tables, list);
             let numbers = flat(tables);
-            let mut flags = [0u8; 2048];
+            let mut flags = [0u8; MOST_CELLS];
             match items(
                 program,
                 first,
@@ -63,7 +66,7 @@ pub fn unroll(program: &[u8], list: &mut [u32]) -> Unrolled
     ensures reply { λ r. ⌜ unrolledSays r ≡ unrollReply (now (program .entry)) (length (now (list .entry))) ⌝ }
     ensures leaves { λ _. ⌜ now (list .exit) ≡ unrollLeaves (now (program .entry)) (now (list .entry)) ⌝ }
 {
-    if list.len() < 32768 {
+    if list.len() < LIST_WORDS {
         return Unrolled::Short;
     }
     clear(list);

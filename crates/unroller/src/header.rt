@@ -6,6 +6,7 @@ ghost use lib.ListN.{length};
 ghost use lib.Seq.{sets};
 ghost use Rattle.reader.specs.Entries.{cut};
 ghost use Rattle.unroller.specs.UnrollAnswers.{rows, headWords};
+ghost use Rattle.model.specs.Memory.{headerWords};
 use reader::tables::Tables;
 
 fn word_of_byte(x: u8) -> u32
@@ -28,7 +29,7 @@ fn word_of_count(x: usize) -> u32
 }
 
 fn put_arities(arities: [u8; 16], list: &mut [u32])
-    requires { ⌜ 98 ≤ length (now list) ⌝ }
+    requires { ⌜ headerWords ≤ length (now list) ⌝ }
     ensures { λ _. ⌜ now (list .exit) ≡ sets (now (list .entry)) 1 (cut 16 0 arities) ⌝ }
 {
     let mut k: usize = 0;
@@ -51,7 +52,7 @@ fn put_row(list: &mut [u32], at: usize, role: u32, dimensions: u32, a: u32, b: u
 }
 
 fn put_rows(roles: [u8; 16], dimensions: [u8; 16], extents: [u16; 48], list: &mut [u32])
-    requires { ⌜ 98 ≤ length (now list) ⌝ }
+    requires { ⌜ headerWords ≤ length (now list) ⌝ }
     ensures { λ _. ⌜ now (list .exit) ≡ sets (now (list .entry)) 18 (rows 16 0 roles dimensions extents) ⌝ }
 {
     let mut k: usize = 0;
@@ -67,7 +68,7 @@ fn put_rows(roles: [u8; 16], dimensions: [u8; 16], extents: [u16; 48], list: &mu
 }
 
 pub(crate) fn header(tables: Tables, list: &mut [u32])
-    requires { ⌜ 98 ≤ length (now list) ⌝ }
+    requires { ⌜ headerWords ≤ length (now list) ⌝ }
     ensures { λ _. ⌜ now (list .exit) ≡ sets (now (list .entry)) 0 (headWords «tables») ⌝ }
 {
     let arities = tables.arities;

@@ -12,11 +12,13 @@ use crate::forms::Valued;
 use crate::forms::goes_on;
 use crate::forms::value_at;
 use crate::statement::statement;
+use crate::walk::Flags;
 use crate::walk::Walk;
 use reader::fields::Place;
 use reader::fields::Signed;
 use reader::fields::step_at;
 use reader::items::items_end;
+use reader::tables::FlatTables;
 
 // A loop's start, end and step, and the place of its body; or a question's number.
 enum Range {
@@ -70,7 +72,7 @@ fn range_at(program: &[u8], at: usize, loops: usize, indices: [i16; 8]) -> Range
 fn passed(
     program: &[u8],
     at: usize,
-    tables: &[usize; 115],
+    tables: &FlatTables,
     left: usize,
     loops: usize,
     made: usize,
@@ -89,14 +91,14 @@ fn passed(
 pub(crate) fn items(
     program: &[u8],
     start: usize,
-    tables: &[usize; 115],
+    tables: &FlatTables,
     left: usize,
     loops: usize,
     indices: [i16; 8],
     made: usize,
     nodes: usize,
     updates: usize,
-    flags: &mut [u8; 2048],
+    flags: &mut Flags,
     list: &mut [u32],
 ) -> Walk
     requires { ⌜ loops + left ≤ 8 ⌝ }
@@ -148,14 +150,14 @@ fn item(
     program: &[u8],
     at: usize,
     code: u8,
-    tables: &[usize; 115],
+    tables: &FlatTables,
     left: usize,
     loops: usize,
     indices: [i16; 8],
     made: usize,
     nodes: usize,
     updates: usize,
-    flags: &mut [u8; 2048],
+    flags: &mut Flags,
     list: &mut [u32],
 ) -> Walk
     requires { ⌜ (loops + left ≤ 8) × (at < length (now program)) ⌝ }
@@ -208,14 +210,14 @@ fn item(
 fn run_guard(
     program: &[u8],
     at: usize,
-    tables: &[usize; 115],
+    tables: &FlatTables,
     left: usize,
     loops: usize,
     indices: [i16; 8],
     made: usize,
     nodes: usize,
     updates: usize,
-    flags: &mut [u8; 2048],
+    flags: &mut Flags,
     list: &mut [u32],
 ) -> Walk
     requires { ⌜ (loops + left ≤ 8) × (at < length (now program)) ⌝ }
@@ -251,14 +253,14 @@ fn run_guard(
 fn run_loop(
     program: &[u8],
     at: usize,
-    tables: &[usize; 115],
+    tables: &FlatTables,
     left: usize,
     loops: usize,
     indices: [i16; 8],
     made: usize,
     nodes: usize,
     updates: usize,
-    flags: &mut [u8; 2048],
+    flags: &mut Flags,
     list: &mut [u32],
 ) -> Walk
     requires { ⌜ (loops + left ≤ 8) × (at < length (now program)) ⌝ }
@@ -295,7 +297,7 @@ fn rounds(
     program: &[u8],
     at: usize,
     body: usize,
-    tables: &[usize; 115],
+    tables: &FlatTables,
     left: usize,
     loops: usize,
     indices: [i16; 8],
@@ -305,7 +307,7 @@ fn rounds(
     made: usize,
     nodes: usize,
     updates: usize,
-    flags: &mut [u8; 2048],
+    flags: &mut Flags,
     list: &mut [u32],
 ) -> Walk
     requires { ⌜ (loops + left < 8) × (step ≡ pos 0 → ⊥) ⌝ }
@@ -357,7 +359,7 @@ fn round(
     program: &[u8],
     at: usize,
     body: usize,
-    tables: &[usize; 115],
+    tables: &FlatTables,
     left: usize,
     loops: usize,
     indices: [i16; 8],
@@ -365,7 +367,7 @@ fn round(
     made: usize,
     nodes: usize,
     updates: usize,
-    flags: &mut [u8; 2048],
+    flags: &mut Flags,
     list: &mut [u32],
 ) -> Walk
     requires { ⌜ loops + left < 8 ⌝ }

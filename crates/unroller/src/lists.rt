@@ -11,6 +11,12 @@ ghost use Rattle.unroller.specs.Decode.{expr, operates, accepted};
 ghost use Rattle.unroller.specs.Unroll.{checkReply};
 ghost use Rattle.unroller.specs.State.{readableIn, writableIn, spot, Filled, stateOf};
 ghost use Rattle.unroller.specs.CheckAnswers.{checkedSays, Either, Zeros, Arities, factorOf, Declares, Arrays, Header, Leaf, answerOf, Reads, Follows, ReadsAll, Updates, Follow};
+ghost use Rattle.model.specs.Memory.{headerWords};
+use model::sizes::HEADER_WORDS;
+use model::sizes::LIST_WORDS;
+use model::sizes::MOST_CELLS;
+use model::sizes::MOST_NODES;
+use model::sizes::MOST_UPDATES;
 
 // Refused: 26. Short: 25.
 pub enum Checked {
@@ -30,6 +36,9 @@ enum Declared {
     Is(u32, usize),
     Not,
 }
+
+// A row of cells for each of 16 arrays.
+const STATE: usize = 32768;
 
 // A call asks no proof that the word fits, where a cast would at each place.
 pub(crate) fn wide(x: u32) -> usize
@@ -202,7 +211,7 @@ fn in_order(local: bool, role: u32) -> bool
 
 // The m arrays; their cells get their first state.
 fn arrays_at(list: &[u32], m: usize, state: &mut [u8]) -> bool
-    requires { ⌜ (98 ≤ length (now list)) × (m ≤ 16) ⌝ }
+    requires { ⌜ (headerWords ≤ length (now list)) × (m ≤ 16) ⌝ }
     requires { ⌜ (length (now state) ≡ 32768) × ((i : ℕ) → getD (now state) i 0 ≡ 0) ⌝ }
     ensures { λ r. ⌜ Arrays (now (list .entry)) m (now (state .exit)) r ⌝ }
 {
@@ -218,10 +227,10 @@ fn arrays_at(list: &[u32], m: usize, state: &mut [u8]) -> bool
                 if !in_order(local, role) {
                     return false;
                 }
-                if 2048 < sum + n {
+                if MOST_CELLS < sum + n {
                     return false;
                 }
-                fill(state, 2048 * k, n, first_state(role));
+                fill(state, MOST_CELLS * k, n, first_state(role));
                 local = role == 3;
                 sum += n;
                 k += 1;
@@ -233,7 +242,7 @@ fn arrays_at(list: &[u32], m: usize, state: &mut [u8]) -> bool
 
 // The two tables, and zeros where they have none.
 fn header(list: &[u32], state: &mut [u8]) -> bool
-    requires { ⌜ 98 ≤ length (now list) ⌝ }
+    requires { ⌜ headerWords ≤ length (now list) ⌝ }
     requires { ⌜ (length (now state) ≡ 32768) × ((i : ℕ) → getD (now state) i 0 ≡ 0) ⌝ }
     ensures { λ r. ⌜ Header (now (list .entry)) (now (state .exit)) r ⌝ }
 {
@@ -271,7 +280,7 @@ fn readable(state: &[u8], x: u32, y: u32) -> bool
     if 2048 <= y {
         return false;
     }
-    2 <= state[2048 * wide(x) + wide(y)]
+    2 <= state[MOST_CELLS * wide(x) + wide(y)]
 }
 
 // Is it a cell of a declared array that is no in array?
@@ -285,7 +294,7 @@ fn writable(state: &[u8], x: u32, y: u32) -> bool
     if 2048 <= y {
         return false;
     }
-    let v = state[2048 * wide(x) + wide(y)];
+    let v = state[MOST_CELLS * wide(x) + wide(y)];
     if v < 1 {
         return false;
     }
@@ -371,7 +380,7 @@ fn mark(state: &mut [u8], x: u32, y: u32)
     requires { ⌜ length (now state) ≡ 32768 ⌝ }
     ensures { λ _. ⌜ now (state .exit) ≡ set (now (state .entry)) (spot x y) 2 ⌝ }
 {
-    state[2048 * wide(x) + wide(y)] = 2;
+    state[MOST_CELLS * wide(x) + wide(y)] = 2;
 }
 
 // An update, where those before it have `count` nodes.
@@ -399,7 +408,7 @@ fn update_at(list: &[u32], at: usize, ops: &[u32], state: &mut [u8], count: usiz
         return Moved::Stop;
     }
     let size = (next - (at + 3)) / 3;
-    if 8192 - count < size {
+    if MOST_NODES - count < size {
         return Moved::Stop;
     }
     mark(state, x, y);
@@ -411,8 +420,8 @@ fn updates_at(list: &[u32], ops: &[u32], state: &mut [u8]) -> bool
     requires { ⌜ length (now state) ≡ 32768 ⌝ }
     ensures { λ r. ⌜ Follow (now (list .entry)) (now (ops .entry)) (now (state .entry)) r ⌝ }
 {
-    let mut at: usize = 98;
-    let mut left: usize = 2048;
+    let mut at: usize = HEADER_WORDS;
+    let mut left: usize = MOST_UPDATES;
     let mut count: usize = 0;
     while !ended(list, at) {
         if left == 0 {
@@ -434,7 +443,7 @@ fn updates_at(list: &[u32], ops: &[u32], state: &mut [u8]) -> bool
 
 // Question 26, with a state of zeros.
 fn accepts(list: &[u32], state: &mut [u8]) -> bool
-    requires { ⌜ 98 ≤ length (now list) ⌝ }
+    requires { ⌜ headerWords ≤ length (now list) ⌝ }
     requires { ⌜ (length (now state) ≡ 32768) × ((i : ℕ) → getD (now state) i 0 ≡ 0) ⌝ }
     ensures { λ r. ⌜ r ≡ accepted (now (list .entry)) ⌝ }
 {
@@ -450,10 +459,10 @@ fn accepts(list: &[u32], state: &mut [u8]) -> bool
 pub fn check_list(list: &[u32]) -> Checked
     ensures { λ r. ⌜ checkedSays r ≡ checkReply (now (list .entry)) ⌝ }
 {
-    if list.len() < 32768 {
+    if list.len() < LIST_WORDS {
         return Checked::Short;
     }
-    let mut state = [0u8; 32768];
+    let mut state = [0u8; STATE];
     if accepts(list, &mut state) {
         Checked::Accepted
     } else {

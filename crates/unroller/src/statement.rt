@@ -12,10 +12,16 @@ ghost use Rattle.reader.specs.Entries.{viewed, tablesIn};
 ghost use Rattle.unroller.specs.Run.{fits32};
 ghost use Rattle.unroller.specs.Walk.{progress, RunsStatement};
 ghost use Rattle.unroller.specs.Writes.{InExtent, Below, Subscript, CellOf, WritesRead, WritesLiteral, WritesConstant, WritesLeaf, WritesOperator, leafRecord, WritesRecord, Roomy, WritesNode, Ends, spot, mayRead, recordFine, scanned, Marks, WritesUpdate, Within, Sources, FewNodes, RunsUpdate};
+ghost use Rattle.model.specs.Memory.{listWords};
 use crate::forms::Valued;
 use crate::forms::value_at;
 use crate::lists::wide;
+use crate::walk::Flags;
 use crate::walk::Walk;
+use model::sizes::HEADER_WORDS;
+use model::sizes::LIST_WORDS;
+use model::sizes::MOST_CELLS;
+use model::sizes::MOST_NODES;
 use reader::expressions::expression_end;
 use reader::expressions::forms_end;
 use reader::fields::Field;
@@ -23,6 +29,7 @@ use reader::fields::Place;
 use reader::fields::byte_at;
 use reader::fields::index_at;
 use reader::fields::name_at;
+use reader::tables::FlatTables;
 use reader::tables::arity_of;
 use reader::tables::array_count;
 use reader::tables::base_of;
@@ -103,7 +110,7 @@ fn subscript_at(program: &[u8], at: usize, loops: usize, indices: [i16; 8], exte
 fn cell_at(
     program: &[u8],
     at: usize,
-    tables: &[usize; 115],
+    tables: &FlatTables,
     loops: usize,
     indices: [i16; 8],
     array: usize,
@@ -146,7 +153,7 @@ fn put(list: &mut [u32], to: usize, code: u32, x: u32, y: u32)
 fn write_read(
     program: &[u8],
     at: usize,
-    tables: &[usize; 115],
+    tables: &FlatTables,
     loops: usize,
     indices: [i16; 8],
     list: &mut [u32],
@@ -205,7 +212,7 @@ fn write_leaf(
     program: &[u8],
     code: usize,
     at: usize,
-    tables: &[usize; 115],
+    tables: &FlatTables,
     loops: usize,
     indices: [i16; 8],
     list: &mut [u32],
@@ -226,7 +233,7 @@ fn write_leaf(
 fn write_operator(
     program: &[u8],
     at: usize,
-    tables: &[usize; 115],
+    tables: &FlatTables,
     list: &mut [u32],
     to: usize,
 ) -> Record
@@ -261,7 +268,7 @@ fn leaf_record(leaf: Wrote) -> Record
 fn write_record(
     program: &[u8],
     at: usize,
-    tables: &[usize; 115],
+    tables: &FlatTables,
     loops: usize,
     indices: [i16; 8],
     list: &mut [u32],
@@ -292,7 +299,7 @@ fn write_record(
 fn write_nodes(
     program: &[u8],
     at: usize,
-    tables: &[usize; 115],
+    tables: &FlatTables,
     loops: usize,
     indices: [i16; 8],
     list: &mut [u32],
@@ -321,24 +328,24 @@ fn write_nodes(
 }
 
 // The number of a cell among the cells of all arrays; 2,048 for a cell beyond them.
-fn spot_of(tables: &[usize; 115], array: usize, cell: usize) -> usize
+fn spot_of(tables: &FlatTables, array: usize, cell: usize) -> usize
     ensures { λ r. ⌜ r ≡ spot (viewed (now (tables .entry)) .bases) array cell ⌝ }
 {
     if 16 < array {
-        return 2048;
+        return MOST_CELLS;
     }
     let base = base_of(tables, array);
-    if 2048 < base {
-        return 2048;
+    if MOST_CELLS < base {
+        return MOST_CELLS;
     }
-    if 2048 < cell {
-        return 2048;
+    if MOST_CELLS < cell {
+        return MOST_CELLS;
     }
     base + cell
 }
 
 // Has the cell a starting content, or has an earlier update written it?
-fn may_read(tables: &[usize; 115], flags: &[u8; 2048], array: usize, cell: usize) -> bool
+fn may_read(tables: &FlatTables, flags: &Flags, array: usize, cell: usize) -> bool
     ensures { λ r. ⌜ r ≡ mayRead (tablesIn (now (tables .entry))) (viewed (now (tables .entry)) .bases) (now (flags .entry)) array cell ⌝ }
 {
     let role = role_of(tables, array);
@@ -349,14 +356,14 @@ fn may_read(tables: &[usize; 115], flags: &[u8; 2048], array: usize, cell: usize
         return true;
     }
     let k = spot_of(tables, array, cell);
-    if k < 2048 {
+    if k < MOST_CELLS {
         return flags[k] == 1;
     }
     false
 }
 
 // Is the record at `at` no read, or one of a cell that may be read?
-fn record_fine(list: &[u32], at: usize, tables: &[usize; 115], flags: &[u8; 2048]) -> bool
+fn record_fine(list: &[u32], at: usize, tables: &FlatTables, flags: &Flags) -> bool
     requires { ⌜ at + 3 ≤ length (now list) ⌝ }
     ensures { λ r. ⌜ r ≡ recordFine (mayRead (tablesIn (now (tables .entry))) (viewed (now (tables .entry)) .bases) (now (flags .entry))) (drop at (now (list .entry))) ⌝ }
 {
@@ -368,13 +375,7 @@ fn record_fine(list: &[u32], at: usize, tables: &[usize; 115], flags: &[u8; 2048
 }
 
 // Is each cell read in the n records from word `from` on one that may be read?
-fn all_written(
-    list: &[u32],
-    from: usize,
-    n: usize,
-    tables: &[usize; 115],
-    flags: &[u8; 2048],
-) -> bool
+fn all_written(list: &[u32], from: usize, n: usize, tables: &FlatTables, flags: &Flags) -> bool
     requires { ⌜ from + 3 * n ≤ length (now list) ⌝ }
     ensures { λ r. ⌜ r ≡ scanned (mayRead (tablesIn (now (tables .entry))) (viewed (now (tables .entry)) .bases) (now (flags .entry))) n (drop from (now (list .entry))) ⌝ }
 {
@@ -390,10 +391,10 @@ fn all_written(
     true
 }
 
-fn mark(flags: &mut [u8; 2048], k: usize)
+fn mark(flags: &mut Flags, k: usize)
     ensures { λ _. ⌜ Marks (now (flags .entry)) k (now (flags .exit)) ⌝ }
 {
-    if k < 2048 {
+    if k < MOST_CELLS {
         flags[k] = 1;
     }
 }
@@ -403,7 +404,7 @@ fn write_update(
     program: &[u8],
     array: usize,
     at: usize,
-    tables: &[usize; 115],
+    tables: &FlatTables,
     loops: usize,
     indices: [i16; 8],
     list: &mut [u32],
@@ -426,7 +427,7 @@ fn write_update(
 }
 
 // The number of nodes of the expression behind a target's subscripts, and its place.
-fn source_at(program: &[u8], at: usize, tables: &[usize; 115], loops: usize, array: usize) -> Field
+fn source_at(program: &[u8], at: usize, tables: &FlatTables, loops: usize, array: usize) -> Field
     ensures { λ r. ⌜ Sources (now (program .entry)) at (tablesIn (now (tables .entry))) loops array r ⌝ }
 {
     match forms_end(program, at, loops, dimensions_of(tables, array)) {
@@ -441,10 +442,10 @@ fn source_at(program: &[u8], at: usize, tables: &[usize; 115], loops: usize, arr
 fn too_many(nodes: usize, more: usize) -> bool
     ensures { λ r. ⌜ r ≡ ltb 8192 (nodes + more) ⌝ }
 {
-    if 8192 < nodes {
+    if MOST_NODES < nodes {
         return true;
     }
-    8192 - nodes < more
+    MOST_NODES - nodes < more
 }
 
 // Are there at most 8,192 nodes with those of the expression behind the subscripts at `at`? A node takes a byte at least, so they
@@ -452,7 +453,7 @@ fn too_many(nodes: usize, more: usize) -> bool
 fn few_nodes(
     program: &[u8],
     at: usize,
-    tables: &[usize; 115],
+    tables: &FlatTables,
     loops: usize,
     array: usize,
     nodes: usize,
@@ -474,19 +475,19 @@ fn update(
     at: usize,
     array: usize,
     target: usize,
-    tables: &[usize; 115],
+    tables: &FlatTables,
     loops: usize,
     indices: [i16; 8],
     made: usize,
     nodes: usize,
     updates: usize,
-    flags: &mut [u8; 2048],
+    flags: &mut Flags,
     list: &mut [u32],
 ) -> Walk
-    requires { ⌜ (updates < 2048) × (nodes ≤ 8192) × (32768 ≤ length (now list)) ⌝ }
+    requires { ⌜ (updates < 2048) × (nodes ≤ 8192) × (listWords ≤ length (now list)) ⌝ }
     ensures { λ r. ⌜ RunsUpdate (now (program .entry)) at array target (tablesIn (now (tables .entry))) (viewed (now (tables .entry)) .bases) loops indices (progress made nodes updates) (now (list .entry)) (now (flags .entry)) r (now (list .exit)) (now (flags .exit)) ⌝ }
 {
-    let to = 98 + 3 * (updates + nodes);
+    let to = HEADER_WORDS + 3 * (updates + nodes);
     match write_update(program, array, target, tables, loops, indices, list, to) {
         Target::No(number) => Walk::No(number, at),
         Target::Is(cell, next, end) => {
@@ -504,13 +505,13 @@ fn update(
 pub(crate) fn statement(
     program: &[u8],
     at: usize,
-    tables: &[usize; 115],
+    tables: &FlatTables,
     loops: usize,
     indices: [i16; 8],
     made: usize,
     nodes: usize,
     updates: usize,
-    flags: &mut [u8; 2048],
+    flags: &mut Flags,
     list: &mut [u32],
 ) -> Walk
     ensures { λ r. ⌜ RunsStatement (now (program .entry)) at (tablesIn (now (tables .entry))) (viewed (now (tables .entry)) .bases) loops indices (progress made nodes updates) (now (list .entry)) (now (flags .entry)) r (now (list .exit)) (now (flags .exit)) ⌝ }
@@ -522,10 +523,10 @@ pub(crate) fn statement(
     if program.len() <= at {
         return Walk::No(3, at);
     }
-    if list.len() < 32768 {
+    if list.len() < LIST_WORDS {
         return Walk::No(25, at);
     }
-    if 8192 < nodes {
+    if MOST_NODES < nodes {
         return Walk::No(20, at);
     }
     match index_at(program, at + 1, array_count(tables)) {
