@@ -16,7 +16,7 @@ pub mod header;
 pub mod items;
 pub mod tables;
 
-// Whether a file is a program: accepted, or a question's number and place.
+// Whether a file is a program: accepted, or a question's number and place. A program alone is the left one (`verdictSays`).
 pub enum Verdict {
     Accepted,
     Refused(u8, usize),

@@ -43,7 +43,7 @@ module _ (s list : List ℕ) where
     unfolding said
     said-no k q e = go (readProgram s) (sym (ap verdictSays e) ∙ says)
       where
-        go : (o : Outcome Program) → refused k q ≡ said o → o ≡ no k q
+        go : (o : Outcome Program) → refused left k q ≡ said o → o ≡ no k q
         go (got p next) x = absurd (let z : _≡_ {A = ℕ} 0 1 = cc in omega arith)
         go (no a b) x = cc
 
