@@ -4,8 +4,8 @@ use native.Mathlib.Omega.{arith}
 use mathlib.Core.Path.{_≡_, refl, sym, ap, _∙_}
 use mathlib.Core.Logic.{⊎-elim}
 use mathlib.Core.List.{List}
-use mathlib.Core.Bool.{Bool, true, false, _&&_, false≢true}
-use mathlib.Core.Option.{Option, none, some}
+use mathlib.Core.Bool.{Bool, true, false, _&&_}
+use mathlib.Core.Option.{some}
 use lib.ListN.{length, replicate, length-replicate}
 use lib.Dec.{leb, eqb}
 use borrow.Author.Tests.{lt-leb, le-leb, leb-true}
@@ -13,12 +13,11 @@ use Rattle.model.specs.Test.{if_then_else_}
 use Rattle.model.specs.Update.{Listed}
 use Rattle.model.specs.Reply as model
 use Rattle.model.specs.Memory.{listWords, cellWords, termWords, cleared, workLeft}
-use Rattle.unroller.specs.Words.{Out, got, isGot}
-use Rattle.unroller.specs.Words.Out.{none as nothing}
-use Rattle.unroller.specs.Decode.{list, listOf, decode, accepted}
+use Rattle.unroller.specs.Decode.{decode, accepted}
 use Rattle.unroller.specs.Unroll as Unroll
 use Rattle.unroller.specs.Unroll.{checkReply}
 use Rattle.unroller.proofs.Parts as parts
+use Rattle.unroller.proofs.Laws.{accepted-words, refused-words}
 use Rattle.unroller.proofs.Stands.{stands}
 use Rattle.unroller.proofs.Inverse.{layout-decode}
 use Rattle.comparer.specs.Match.{sameArray, nonLocal, sameTable, matched, listsReply}
@@ -61,22 +60,6 @@ cleared-same m n e = ap (λ (k : ℕ). replicate k 0) e
 
 -- 26
 module _ (w : List ℕ) where
-  pub refused-words : accepted w ≡ false → decode w ≡ none
-  unfolding decode accepted
-  refused-words = by (list w)
-    where
-      by : (o : Out Listed) → isGot o ≡ false → listOf o ≡ none
-      by (got l rest) e = absurd (false≢true (sym e))
-      by nothing e = refl
-
-  pub accepted-words : accepted w ≡ true → (l : Listed) × (decode w ≡ some l)
-  unfolding decode accepted
-  accepted-words = by (list w)
-    where
-      by : (o : Out Listed) → isGot o ≡ true → (l : Listed) × (listOf o ≡ some l)
-      by (got l rest) e = (l, refl)
-      by nothing e = absurd (false≢true e)
-
   -- the check of a list that is long enough for 25
   module _ (h : listWords ≤ length w) where
     check-is : (b : Bool) → accepted w ≡ b → checkReply w ≡ (if b then Unroll.accepts else Unroll.refuses model.left 26 0)

@@ -17,7 +17,7 @@ abbrev pub up : ℤ → ℕ
 up (pos n) = n + 4294967296
 up (negsuc n) = 4294967296 - suc n
 
-same-leb : (a b c d : ℕ) → (a ≤ b → c ≤ d) → (b < a → d < c) → leb a b ≡ leb c d
+pub same-leb : (a b c d : ℕ) → (a ≤ b → c ≤ d) → (b < a → d < c) → leb a b ≡ leb c d
 same-leb a b c d f g = go (decLe a b)
   where
     go : Dec (a ≤ b) → leb a b ≡ leb c d

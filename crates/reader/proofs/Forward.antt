@@ -15,7 +15,7 @@ use Rattle.reader.specs.Syntax.{Form, Expr, Exprs, Item, Items, count, c
 use Rattle.reader.specs.Syntax.Exprs.{none, more}
 use Rattle.reader.specs.Syntax.Items.{end, item}
 use Rattle.reader.proofs.Bytes.{step-zero, step-is, step-no}
-use Rattle.reader.specs.Grammar.{form, subscripts, index, step, readOf, literalOf, constantOf, applyOf, node, applied, expression, statementOf, loopOf, guardOf, items, itemOf, nested, body}
+use Rattle.reader.specs.Grammar.{form, subscripts, index, step, readOf, literalOf, constantOf, applyOf, node, applied, expression, statementOf, loopOf, guardOf, items, itemOf, nested}
 
 -- what was got, with the place past it, has P
 abbrev pub Held : {A : Type 0} → (A → ℕ → Type 0) → Outcome A → Type 0
@@ -203,7 +203,3 @@ module _ (s : List ℕ) where
 
       pub items-of-held : (left loops code p at : ℕ) → at ≤ length s → Held (Past at) (itemOf t most (nested t most left loops) loops code p s at)
       items-of-held left loops = item-held (nested t most left loops) (nested-held left loops) loops
-
-      pub body-held : (left loops at : ℕ) → Held (Past (at + 1)) (body t most left loops s at)
-      unfolding body
-      body-held left loops at = items-held (itemOf t most (nested t most left loops) loops) (items-of-held left loops) most at

@@ -1,7 +1,7 @@
 -- Padded lists: one more element stands where the padding begins.
 use mathlib.Core.Path.{_≡_, refl, sym, ap, _∙_}
 use Prim.Native.Nat.{ℕ, zero, suc, _+_, _-_, _≤_, _<_}
-use mathlib.Core.List.{List, [], _∷_, _++_, append-nil, append-assoc}
+use mathlib.Core.List.{List, [], _∷_, _++_, append-assoc}
 use native.Mathlib.Omega.{arith}
 use lib.ListN.{length, getD, take, set, replicate, length-append, length-replicate}
 use lib.Seq.{set-at, take-at}
@@ -24,6 +24,3 @@ module _ {A : Type 0} where
 
     pub take-padded : (k : ℕ) → length l ≡ k → take k (padded n z l) ≡ l
     take-padded k e = take-at l _ k e
-
-    pub padded-full : length l ≡ n → padded n z l ≡ l
-    padded-full e = let w : n - length l ≡ 0 = omega arith in rw (w, append-nil)

@@ -1,5 +1,5 @@
 -- Numbers: room in a slice, two's complement.
-use mathlib.Core.Path.{_≡_, refl, sym, _∙_}
+use mathlib.Core.Path.{_≡_, sym, _∙_}
 use Prim.Native.Nat.{ℕ, _+_, _-_, _≤_, _<_}
 use mathlib.Core.List.{List}
 use mathlib.Core.Bool.{Bool, true, false}
@@ -11,7 +11,8 @@ use lib.IntN.{pos}
 use mir.Syntax.{w16}
 use mir.Val.{toZ, Fits}
 use mir.Facts.{toZ-inj, fits-lit}
-use borrow.Author.Tests.{le-leb, lt-leb, leb-true, leb-false}
+use borrow.Author.Tests.{leb-true, leb-false}
+use Rattle.model.proofs.Up.{same-leb}
 
 -- what the test for room says
 module _ (s : List ℕ) (at n : ℕ) {r : Bool} (e : r ≡ leb (at + n) (length s)) where
@@ -28,9 +29,6 @@ module _ {P : Type 0} where
       go : Dec (a ≤ b) → P
       go (yes h) = f h
       go (no h) = g (omega arith)
-
-pub same-leb : (a b c d : ℕ) → (a ≤ b → c ≤ d) → (b < a → d < c) → leb a b ≡ leb c d
-same-leb a b c d f g = by-order a b (λ h. le-leb a b h ∙ sym (le-leb c d (f h))) (λ h. lt-leb a b h ∙ sym (lt-leb c d (g h)))
 
 -- room without a sum that could wrap
 pub room-by : (at n m : ℕ) → at ≤ m → leb n (m - at) ≡ leb (at + n) m

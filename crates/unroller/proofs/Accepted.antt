@@ -25,7 +25,7 @@ use Rattle.unroller.specs.Run.{Ran, ok, stop, _>>=_, ask, valueAt, fits3
 use Rattle.unroller.specs.Allowed.{localsLast, allowedArray, proper, propers, mayWrite, allowedUpdate, allowed}
 use Rattle.unroller.specs.Unroll.{unrolled}
 use Rattle.unroller.proofs.Parts.{both, join, array-whole, room, TablesParts, ListParts, list-whole, nodes-snoc}
-use Rattle.reader.proofs.Binds.{read-by, asked-by, got-is}
+use Rattle.reader.proofs.Binds.{read-by, asked-by, choose-by, got-is}
 use Rattle.reader.specs.Grammar.{head, arity, operators, extent, array, arrays, tables, form, subscripts, index, readOf, literalOf, constantOf, applyOf, node, applied, expression, statementOf, loopOf, guardOf, step, items, itemOf, nested, body, program, readProgram}
 use Rattle.unroller.proofs.Runs.{run-by, ask-by, ok-is, Unrolls, unrolls, unrolled-reads}
 
@@ -312,10 +312,6 @@ module _ (t : Tables) (loops : ℕ) (s : List ℕ) (b : Bytes s) where
   unfolding subscripts
   subscripts-length a at e = times-length (form loops) (length (arrayAt (t .arrays) a .extents)) s at e
 
-  -- what follows a code, by the code
-  abbrev Follows : ℕ → ℕ → Expr → Type 0
-  Follows left at e = Sound e t left
-
   read-sound : (left at : ℕ) (e : Expr) (next : ℕ) → readOf t loops s at ≡ got e next → Sound e t left
   unfolding readOf Sound
   read-sound left at e next r =
@@ -377,11 +373,6 @@ module _ (t : Tables) (loops : ℕ) (s : List ℕ) (b : Bytes s) where
       read-by (node t loops (applied t loops 12) s at2) _ r3 λ e at3 e4 r4.
       got-is (λ i. SoundItem i t) r4 (subscripts-length a at1 e3, h, node-sound 12 (applied t loops 12) (applied-sound 12) at2 e at3 e4)
 
-if-by : {A : Type 0} {P : Type 0} (z : Bool) (one other : Reader A) (s : List ℕ) (at : ℕ) {x : A} {next : ℕ}
-    → (if z then one else other) s at ≡ got x next → (one s at ≡ got x next → P) → (other s at ≡ got x next → P) → P
-if-by true one other s at e f g = f e
-if-by false one other s at e f g = g e
-
 module _ (t : Tables) (s : List ℕ) (b : Bytes s) where
   abbrev Reads : (ℕ → ℕ → Reader Item) → Type 0
   Reads one = (code p at : ℕ) (i : Item) (next : ℕ) → one code p s at ≡ got i next → SoundItem i t
@@ -391,7 +382,7 @@ module _ (t : Tables) (s : List ℕ) (b : Bytes s) where
   items-sound one h zero at is next r = absurd (let z : _≡_ {A = ℕ} 0 1 = cc in omega arith)
   items-sound one h (suc k) at is next r =
       read-by (byte s at) _ r λ code at1 _ r1.
-      if-by (eqb code 0) (give end) _ s at1 r1 (λ r2. got-is (λ is. SoundItems is t) {n = at1} r2 tt) λ r2.
+      choose-by (eqb code 0) (give end) _ s at1 r1 (λ _ r2. got-is (λ is. SoundItems is t) {n = at1} r2 tt) λ _ r2.
       read-by (one code at s at1) _ r2 λ i at2 e3 r3.
       read-by (items one k s at2) _ r3 λ js at3 e4 r4.
       got-is (λ is. SoundItems is t) r4 (h code at at1 i at2 e3, items-sound one h k at2 js at3 e4)
@@ -399,8 +390,8 @@ module _ (t : Tables) (s : List ℕ) (b : Bytes s) where
   item-sound : (inner : ℕ → ℕ → Reader Item) (most loops : ℕ) → Reads inner → Reads (itemOf t most inner loops)
   unfolding itemOf
   item-sound inner most loops h code p at i next r =
-      if-by (eqb code 1) (statementOf t loops p) _ s at r (λ r1. statement-sound t loops s b p at i next r1) λ r1.
-      if-by (eqb code 2 || eqb code 3) (inner code p) (refuse 9 p) s at r1 (λ r2. h code p at i next r2) λ r2.
+      choose-by (eqb code 1) (statementOf t loops p) _ s at r (λ _ r1. statement-sound t loops s b p at i next r1) λ _ r1.
+      choose-by (eqb code 2 || eqb code 3) (inner code p) (refuse 9 p) s at r1 (λ _ r2. h code p at i next r2) λ _ r2.
       absurd (let z : _≡_ {A = ℕ} 0 1 = cc in omega arith)
 
   loop-sound : (loops : ℕ) (inner : Reader Items) → ((at : ℕ) (is : Items) (next : ℕ) → inner s at ≡ got is next → SoundItems is t)
@@ -425,10 +416,10 @@ module _ (t : Tables) (s : List ℕ) (b : Bytes s) where
   unfolding nested
   nested-sound most zero loops code p at i next r = absurd (let z : _≡_ {A = ℕ} 0 1 = cc in omega arith)
   nested-sound most (suc left) loops code p at i next r =
-      if-by (eqb code 2) _ _ s at r
-      (λ r1. loop-sound loops (items (itemOf t most (nested t most left (suc loops)) (suc loops)) most)
+      choose-by (eqb code 2) _ _ s at r
+      (λ _ r1. loop-sound loops (items (itemOf t most (nested t most left (suc loops)) (suc loops)) most)
       (λ at is next e. items-sound (itemOf t most (nested t most left (suc loops)) (suc loops)) (item-sound (nested t most left (suc loops)) most (suc loops) (λ code p at i next e. nested-sound most left (suc loops) code p at i next e)) most at is next e) p at i next r1)
-      (λ r1. guard-sound loops (items (itemOf t most (nested t most left loops) loops) most)
+      (λ _ r1. guard-sound loops (items (itemOf t most (nested t most left loops) loops) most)
       (λ at is next e. items-sound (itemOf t most (nested t most left loops) loops) (item-sound (nested t most left loops) most loops (λ code p at i next e. nested-sound most left loops code p at i next e)) most at is next e) p at i next r1)
 
 -- a whole program

@@ -1,6 +1,6 @@
 -- The state of the cells.
 use mathlib.Core.Path.{_≡_, refl, ap, _∙_}
-use Prim.Native.Nat.{ℕ, _+_, _-_, _<_, _≤_}
+use Prim.Native.Nat.{ℕ, _<_, _≤_}
 use mathlib.Core.List.{List, [], _∷_, _++_}
 use mathlib.Core.Bool.{Bool, true, false, _&&_, _||_, not}
 use native.Mathlib.Omega.{arith}
@@ -10,7 +10,7 @@ use lib.Dec.{eqb, leb, ltb}
 use borrow.Author.Tests.{lt-ltb, le-ltb, lt-leb, le-leb, eq-eqb, ne-eqb, ltb-true, ltb-false, eqb-true, eqb-false}
 use Rattle.model.specs.Test.{if_then_else_}
 use Rattle.model.specs.Tables.{Array, cells, inside, starts, arrayAt}
-use Rattle.model.specs.Update.{Update, written, size, nodes}
+use Rattle.model.specs.Update.{Update, written}
 use Rattle.unroller.specs.Allowed.{mayWrite}
 use Rattle.unroller.specs.Decode.{mayRead}
 use Rattle.unroller.specs.State.{nowhere, stateAt, spot, State, Small, known, readableIn, writableIn}
@@ -159,10 +159,6 @@ module _ (xs : List Array) (before : List Update) (st : List ℕ) (small : Small
   writes-same = λ i a c. writes-at a c i
 
 -- one more update
-pub nodes-snoc : (before : List Update) (u : Update) → nodes (before ++ (u ∷ [])) ≡ nodes before + size (u .source)
-nodes-snoc [] u = omega arith
-nodes-snoc (v ∷ before) u = let e = nodes-snoc before u in omega arith
-
 or-assoc : (a b c : Bool) → (a || (b || c)) ≡ ((a || b) || c)
 or-assoc true b c = refl
 or-assoc false b c = refl

@@ -15,9 +15,10 @@ use Rattle.unroller.specs.State.{State, Small, readableIn, writableIn, s
 use Rattle.unroller.specs.CheckAnswers.{answerOf, Reads, Updates, Follow}
 use Rattle.unroller.specs.declared.lists.Moved.{Moved}
 use Rattle.unroller.specs.declared.lists.Moved.the-variants.{To, Stop}
+use Rattle.unroller.proofs.Parts.{nodes-snoc}
 use Rattle.unroller.proofs.CheckWords.{at-three, few}
 use Rattle.unroller.proofs.CheckTrees.{answer-got}
-use Rattle.unroller.proofs.CheckCells.{reads-same, writes-same, state-marked, nodes-snoc}
+use Rattle.unroller.proofs.CheckCells.{reads-same, writes-same, state-marked}
 
 module _ (ops : List ℕ) (writes reads : ℕ → ℕ → Bool) (count : ℕ) (s : List ℕ) (at : ℕ) where
   update-few : (l : List ℕ) → length l < 3 → update ops writes reads count l ≡ none

@@ -18,6 +18,7 @@ use Rattle.unroller.specs.Layout.{padded, arrayWords, arraysWords, table
 use Rattle.unroller.specs.UnrollAnswers.{rows, headWords}
 use Rattle.unroller.proofs.Parts.{both, within-high, array-parts, TablesParts}
 use Rattle.unroller.proofs.Encode.{padded-length}
+use Rattle.unroller.proofs.Stands.{zero-behind}
 
 -- ---- writing
 pub row-put : (l : List ℕ) (at a b c d e : ℕ) → set (set (set (set (set l at a) (at + 1) b) (at + 2) c) (at + 3) d) (at + 4) e ≡ sets l at (a ∷ b ∷ c ∷ d ∷ e ∷ [])
@@ -65,17 +66,12 @@ rows-shift (suc n) k x y a b c rs ds es =
     let s : suc k + 1 ≡ suc (k + 1) = omega arith in
     rw (p, q, r, s, rows-shift n (k + 1) x y a b c rs ds es)
 
-zero-at : (n i : ℕ) → _≡_ {A = ℕ} (getD (replicate n 0) i 0) 0
-zero-at zero i = refl
-zero-at (suc n) zero = refl
-zero-at (suc n) (suc i) = zero-at n i
-
 rows-none : (n k p q r : ℕ) → rows n k (replicate p 0) (replicate q 0) (replicate r 0) ≡ replicate (5 * n) 0
 unfolding rows
 rows-none zero k p q r = refl
 rows-none (suc n) k p q r =
     let e : 5 * suc n ≡ suc (suc (suc (suc (suc (5 * n))))) = omega arith in
-    rw (e, zero-at p k, zero-at q k, zero-at r (3 * k), zero-at r (3 * k + 1), zero-at r (3 * k + 2), rows-none n (k + 1) p q r)
+    rw (e, zero-behind [] p k, zero-behind [] q k, zero-behind [] r (3 * k), zero-behind [] r (3 * k + 1), zero-behind [] r (3 * k + 2), rows-none n (k + 1) p q r)
 
 -- an array's extents, in three words
 module _ (n : ℕ) (x : Array) (rs ds es : List ℕ) where

@@ -4,6 +4,7 @@ use Prim.Native.Nat.{ℕ, zero, suc, _+_, _-_, _*_, _<_, _≤_}
 use mathlib.Core.List.{List, [], _∷_, _++_, append-nil, append-assoc}
 use mathlib.Core.Bool.{Bool, true, false}
 use mathlib.Core.Option.{Option, some}
+use mathlib.Core.Option.Option.{none as nothing}
 use native.Mathlib.Omega.{arith}
 use lib.Seq.{sets, sets-eq, take-append-seam, drop-append-add}
 use lib.ListN.{length, drop, replicate, length-append}
@@ -27,6 +28,23 @@ accepted-sound w e = by (list w) refl e
     by : (o : Out Listed) → list w ≡ o → isGot o ≡ true → (l : Listed) × (allowed l ≡ true) × (w ≡ layout l (length w))
     by (got l rest) q e = let p = list-out w q in (l, p .1, p .0)
     by none q e = absurd (let z : _≡_ {A = ℕ} 0 1 = cc in omega arith)
+
+-- question 26 and the list that the words lay out
+pub accepted-words : (w : List ℕ) → accepted w ≡ true → (l : Listed) × (decode w ≡ some l)
+unfolding accepted decode
+accepted-words w e = by (list w) e
+  where
+    by : (o : Out Listed) → isGot o ≡ true → (l : Listed) × (_≡_ {A = Option Listed} (listOf o) (some l))
+    by (got l rest) e = (l, refl)
+    by none e = absurd (let z : _≡_ {A = ℕ} 0 1 = cc in omega arith)
+
+pub refused-words : (w : List ℕ) → accepted w ≡ false → decode w ≡ nothing
+unfolding accepted decode
+refused-words w e = by (list w) e
+  where
+    by : (o : Out Listed) → isGot o ≡ false → _≡_ {A = Option Listed} (listOf o) nothing
+    by (got l rest) e = absurd (let z : _≡_ {A = ℕ} 0 1 = cc in omega arith)
+    by none e = refl
 
 pub accepted-complete : (l : Listed) (n : ℕ) → allowed l ≡ true → accepted (layout l n) ≡ true
 unfolding accepted decode

@@ -15,7 +15,6 @@ mod Ranges
 mod HeaderWords
 mod UnrollRun
 pub mod UnrollLaws
-pub mod CheckLaws
 mod Cells
 mod Records
 mod Prefix

@@ -113,13 +113,16 @@ module _ (w : List ℕ) where
     two = word-at at 2 (x ∷ y ∷ z ∷ r) e;
   }
 
--- zeros behind words, or none, give the same words
+-- the default behind a list's own elements, or nothing, is the same
+pub default-behind : {A : Type 0} (z : A) (l : List A) (k i : ℕ) → getD (l ++ replicate k z) i z ≡ getD l i z
+default-behind z [] zero i = refl
+default-behind z [] (suc k) zero = refl
+default-behind z [] (suc k) (suc i) = default-behind z [] k i
+default-behind z (x ∷ l) k zero = refl
+default-behind z (x ∷ l) k (suc i) = default-behind z l k i
+
 pub zero-behind : (l : List ℕ) (k i : ℕ) → getD (l ++ replicate k 0) i 0 ≡ getD l i 0
-zero-behind [] zero i = refl
-zero-behind [] (suc k) zero = refl
-zero-behind [] (suc k) (suc i) = zero-behind [] k i
-zero-behind (x ∷ l) k zero = refl
-zero-behind (x ∷ l) k (suc i) = zero-behind l k i
+zero-behind l k i = default-behind 0 l k i
 
 padded-at : (n : ℕ) (l r : List ℕ) (i : ℕ) → length l ≤ n → i < n → getD (padded n l ++ r) i 0 ≡ getD l i 0
 padded-at n l r i h k = let e = padded-length n l h in List·getD-append (padded n l) r 0 i (omega arith) ∙ zero-behind l (n - length l) i

@@ -1,35 +1,24 @@
--- What the unroller's reply and words tell its callers.
-use mathlib.Core.Path.{_≡_, refl, sym, ap, _∙_, subst}
+-- The reply and the words of `unroll`, by what is asked first.
+use mathlib.Core.Path.{_≡_, refl, sym, ap, _∙_}
 use Prim.Native.Nat.{ℕ, _≤_, _<_}
 use native.Mathlib.Omega.{arith}
 use mathlib.Core.List.{List}
-use mathlib.Core.Bool.{Bool, true, false}
-use mathlib.Core.Option.{Option, some}
 use lib.ListN.{length, replicate, length-replicate}
-use lib.Dec.{leb}
 use borrow.Author.Tests.{le-leb, lt-leb}
-use Rattle.model.specs.Test.{if_then_else_}
-use Rattle.model.specs.Update.{Listed}
-use Rattle.model.specs.Memory.{listWords, cleared}
-use Rattle.model.specs.Reply.{Side, left, both}
+use Rattle.model.specs.Memory.{cleared}
 use Rattle.reader.specs.Field.{Outcome, got, no}
 use Rattle.reader.specs.Syntax.{Program}
 use Rattle.reader.specs.Grammar.{readProgram}
 use Rattle.reader.specs.Verdicts.{Said, accepted, refused, said, verdictSays}
 use Rattle.reader.specs.declared.Verdict.{Verdict}
 use Rattle.reader.specs.declared.Verdict.the-variants as verdict
-use Rattle.unroller.specs.Run.{Ran, ok, stop, runProgram}
-use Rattle.unroller.specs.Layout.{layout}
-use Rattle.unroller.specs.Decode.{decode}
+use Rattle.unroller.specs.Run.{runProgram}
 use Rattle.unroller.specs.Unroll as Unroll
-use Rattle.unroller.specs.Unroll.{unrolled, unrolledBy, unrollReplyBy, wordsOf, unrollReply, unrollLeaves}
+use Rattle.unroller.specs.Unroll.{unrolled, wordsOf, unrollReply, unrollLeaves}
 use Rattle.unroller.specs.UnrollAnswers.{unrolledSays, Unrolls}
 use Rattle.unroller.specs.declared.entry.Unrolled.{Unrolled}
 use Rattle.unroller.specs.declared.entry.Unrolled.the-variants as variants
-use Rattle.unroller.proofs.Encode.{decode-layout}
-use Rattle.unroller.proofs.Accepted.{Bytes, unrolled-allowed}
 
--- ---- the reply and the words, by what is asked first
 module _ (s list : List ℕ) where
   abbrev Replies : Unrolled → List ℕ → Type 0
   Replies r list′ = (unrolledSays r ≡ unrollReply s (length list)) × (list′ ≡ unrollLeaves s list)
@@ -67,25 +56,3 @@ module _ (s list : List ℕ) where
         let z : list₁ ≡ cleared list₁ = c ∙ ap (λ (n : ℕ). replicate n 0) (sym n) in
         let w = u (g .0) (g .1) (g .2) z in
         rw (le-leb 32768 (length list) h, g .2) (w .0, w .1 ∙ ap (wordsOf (Unroll.listedBy (g .0 .tables) (runProgram (g .0)))) n)
-
--- ---- for callers
-pub record Listing (s : List ℕ) (n : ℕ) (list′ : List ℕ) (size : ℕ) : Type 0 where
-  pub listed : Listed
-  pub is : unrolled s ≡ ok listed
-  pub count : n ≡ length (listed .updates)
-  pub lies : list′ ≡ layout listed size
-
--- updates were counted: the list is the program's, laid out in the slice
-pub updates-lie : (s list : List ℕ) (r : Unrolled) (list′ : List ℕ) (n : ℕ) → unrolledSays r ≡ unrollReply s (length list) → list′ ≡ unrollLeaves s list → unrolledSays r ≡ Unroll.updates n
-    → Listing s n list′ (length list)
-unfolding unrollReply unrollLeaves
-updates-lie s list r list′ n a b e = go (leb 32768 (length list)) (unrolled s) refl (sym e ∙ a) b
-  where
-    go : (z : Bool) (m : Ran Listed) → unrolled s ≡ m → Unroll.updates n ≡ (if z then unrollReplyBy m else Unroll.refused both 25 0) → list′ ≡ (if z then wordsOf m (length list) else list) → Listing s n list′ (length list)
-    go true (ok l) q x y = let k : n ≡ length (l .updates) = cc in record { listed = l; is = q; count = k; lies = y }
-    go true (stop k p) q x y = absurd (let z : _≡_ {A = ℕ} 0 1 = cc in omega arith)
-    go false m q x y = absurd (let z : _≡_ {A = ℕ} 0 1 = cc in omega arith)
-
--- and the words can be read back
-pub updates-decode : (s : List ℕ) (n : ℕ) (list′ : List ℕ) (size : ℕ) → Bytes s → (l : Listing s n list′ size) → decode list′ ≡ some (l .listed)
-updates-decode s n list′ size b l = ap decode (l .lies) ∙ decode-layout (l .listed) size (unrolled-allowed s (l .listed) b (l .is))

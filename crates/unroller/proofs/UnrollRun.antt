@@ -1,8 +1,8 @@
 -- An accepted program, from its tables to its updates in the list.
 use mathlib.Core.Path.{_≡_, refl, sym, ap, ap₂, _∙_, subst}
-use Prim.Native.Nat.{ℕ, zero, suc, _+_, _-_, _≤_, _<_}
+use Prim.Native.Nat.{ℕ, _+_, _-_, _≤_, _<_}
 use native.Mathlib.Omega.{arith}
-use mathlib.Core.List.{List, [], _∷_, _++_, append-nil}
+use mathlib.Core.List.{List, [], _∷_, append-nil}
 use mathlib.Core.Bool.{Bool, true, false}
 use lib.ListN.{length, getD, take, replicate, length-replicate}
 use lib.Seq.{sets, length-sets}
@@ -35,6 +35,7 @@ use Rattle.unroller.specs.declared.entry.Unrolled.the-variants as unroll
 use Rattle.unroller.proofs.Parts.{TablesParts, tables-whole, within-high}
 use Rattle.unroller.proofs.Laws.{padded-sets, table-length}
 use Rattle.unroller.proofs.Accepted.{tables-allowed}
+use Rattle.unroller.proofs.Stands.{zero-behind}
 use Rattle.unroller.proofs.HeaderWords.{head-words}
 
 -- a program that was read, taken apart
@@ -60,16 +61,9 @@ unfolding bases
 bases-same n [] = refl
 bases-same n (x ∷ xs) = ap (λ (l : List ℕ). n ∷ l) (bases-same (n + cells (x .extents)) xs)
 
-zeros-behind : (l : List ℕ) (k i : ℕ) → getD (l ++ replicate k 0) i 0 ≡ getD l i 0
-zeros-behind [] zero i = refl
-zeros-behind [] (suc k) zero = refl
-zeros-behind [] (suc k) (suc i) = zeros-behind [] k i
-zeros-behind (x ∷ l) k zero = refl
-zeros-behind (x ∷ l) k (suc i) = zeros-behind l k i
-
 packed-based : (t : Tables) → Based t (packed t .bases)
 unfolding packed basesOf
-packed-based t a h = zeros-behind (bases 0 (t .arrays)) (17 - length (bases 0 (t .arrays))) a ∙ ap (λ (l : List ℕ). getD l a 0) (bases-same 0 (t .arrays))
+packed-based t a h = zero-behind (bases 0 (t .arrays)) (17 - length (bases 0 (t .arrays))) a ∙ ap (λ (l : List ℕ). getD l a 0) (bases-same 0 (t .arrays))
 
 -- the same bases among the 115 numbers that the walk has
 flat-based : (t : Tables) (T : Packed) (numbers : List ℕ) → numbers ≡ flattened T → T ≡ packed t → length (t .arrays) ≤ 16 → Based t (viewed numbers .bases)
@@ -133,7 +127,7 @@ module _ (s : List ℕ) (r : TablesRead) (are : TablesAre (tablesStep s) r) (t :
             long = omega arith;
             lies = lies ∙ ap (layout (record { tables = t; updates = [] })) (sym long₁);
             flags-long = length-replicate {A = ℕ} 2048 0;
-            marked = λ a c _. ap (λ (n : ℕ). eqb n 1) (zeros-behind [] 2048 (getD (basesOf (t .arrays)) a 0 + c));
+            marked = λ a c _. ap (λ (n : ℕ). eqb n 1) (zero-behind [] 2048 (getD (basesOf (t .arrays)) a 0 + c));
           }
 
 -- the reply and the words, from what the walk answered

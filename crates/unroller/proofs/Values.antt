@@ -4,16 +4,14 @@ use Prim.Native.Nat.{ℕ, zero, suc, _+_, _-_, _≤_}
 use native.Mathlib.Omega.{arith}
 use mathlib.Core.List.{List, [], _∷_, _++_}
 use mathlib.Core.Bool.{Bool, true, false, false≢true}
-use lib.ListN.{length, getD, take, replicate, length-append, length-replicate, length-take}
+use lib.ListN.{length, getD, take, replicate, length-append, length-replicate, length-take, List·getD-eq-default}
 use lib.Seq.{take-suc}
-use lib.Dec.{leb}
 use lib.IntN.{ℤ, pos, negsuc, _+ℤ_, _*ℤ_, +ℤ-assoc, +ℤ-idl, +ℤ-idr}
 use lib.Signed.{ltZ}
 use mir.Syntax.{w64}
 use mir.Val.{toZ, ofZ, SFits}
 use mir.Facts.{toZ-ofZ}
 use borrow.Author.Tests.{le-leb, lt-leb, ltb-true, ltb-false}
-use Rattle.model.specs.Test.{if_then_else_}
 use Rattle.reader.specs.Field.{Outcome, got, no}
 use Rattle.reader.specs.Syntax.{Form}
 use Rattle.reader.specs.Grammar.{form}
@@ -22,9 +20,10 @@ use Rattle.reader.specs.Entries.{padded, formStep, FormIs, formSays, coefficien
 use Rattle.reader.specs.declared.fields.Place.{Place}
 use Rattle.reader.specs.declared.fields.Place.the-variants.{Next, Not}
 use Rattle.reader.specs.declared.forms.FormRead.{FormRead}
-use Rattle.unroller.specs.Run.{Ran, ok, stop, products, valueAt, fits32, worked}
+use Rattle.unroller.specs.Run.{products, valueAt, fits32, worked}
 use Rattle.unroller.specs.Forms.{formSum, fittedIn, ValueIs, Values}
 use Rattle.unroller.proofs.Sums.{sum-still}
+use Rattle.unroller.proofs.Stands.{default-behind}
 use Rattle.unroller.specs.declared.forms.Valued.the-variants.{Is, No}
 
 products-snoc : (xs ys : List ℤ) (c i : ℤ) → length xs ≡ length ys → products (xs ++ (c ∷ [])) (ys ++ (i ∷ [])) ≡ products xs ys +ℤ (c *ℤ i)
@@ -45,17 +44,6 @@ sum-products z cs is (suc n) h k =
     ∙ +ℤ-assoc z (products (take n cs) (take n is)) (c *ℤ i)
     ∙ ap (λ (w : ℤ). z +ℤ w) (sym (products-snoc (take n cs) (take n is) c i (omega arith)))
     ∙ ap₂ (λ (xs ys : List ℤ). z +ℤ products xs ys) (sym (take-suc cs n (pos 0) (omega arith))) (sym (take-suc is n (pos 0) (omega arith)))
-
--- beyond a list's own numbers stand zeros
-zeros-at : (n j : ℕ) → getD (replicate n (pos 0)) j (pos 0) ≡ pos 0
-zeros-at zero j = refl
-zeros-at (suc n) zero = refl
-zeros-at (suc n) (suc j) = zeros-at n j
-
-padding-at : (l : List ℤ) (n j : ℕ) → length l ≤ j → getD (l ++ replicate n (pos 0)) j (pos 0) ≡ pos 0
-padding-at [] n j h = zeros-at n j
-padding-at (x ∷ l) n zero h = absurd (omega arith)
-padding-at (x ∷ l) n (suc j) h = padding-at l n j (omega arith)
 
 module _ (s : List ℕ) (at loops : ℕ) (is : List ℤ) (r : FormRead) (i : FormIs loops (formStep loops s at) r) where
   -- the step is the form, where there are at most 8 loops
@@ -92,7 +80,7 @@ module _ (s : List ℕ) (at loops : ℕ) (is : List ℤ) (r : FormRead) (i : For
         let m : 8 ≡ loops + (8 - loops) = omega arith in
         ap (formSum (r .constant) (r .coefficients) is) m
         ∙ sum-still (r .constant) (r .coefficients) is loops (8 - loops)
-        (λ j a b. ap (λ (l : List ℤ). getD l j (pos 0)) c ∙ padding-at (f .coefficients) (8 - length (f .coefficients)) j (omega arith))
+        (λ j a b. ap (λ (l : List ℤ). getD l j (pos 0)) c ∙ default-behind (pos 0) (f .coefficients) (8 - length (f .coefficients)) j ∙ List·getD-eq-default (f .coefficients) (pos 0) {n = j} (omega arith))
 
     formed : (f : Form) (next : ℕ) → form loops s at ≡ got f next → loops ≤ 8 → length is ≡ 8 → (v ≡ valueAt f (take loops is)) × (to ≡ next)
     formed f next q h l =
