@@ -76,6 +76,29 @@ class Interrupted(BaseException):
     """A signal asked this process to end."""
 
 
+class held:
+    """Signals that come where they would leave something behind wait for it."""
+    depth = 0
+    came = None
+
+
+@contextlib.contextmanager
+def held_signals():
+    held.depth += 1
+    try:
+        yield
+    finally:
+        held.depth -= 1
+        if held.came is not None:
+            interrupt(held.came)
+
+
+def interrupt(number):
+    for each in SIGNALS:
+        signal.signal(each, signal.SIG_IGN)
+    raise Interrupted(number)
+
+
 # ---- what is said
 
 
@@ -209,15 +232,22 @@ def crates_of(name):
     return sorted(found)
 
 
-def output_of(command):
-    """What a tool prints; it must be installed and end well."""
+def started(command, errors, **how):
+    """Starts a tool at the root. CDPATH would have a say in where its scripts go."""
+    environment = {name: value for name, value in os.environ.items() if name != 'CDPATH'}
     try:
-        done = subprocess.run(command, cwd=ROOT, stdin=subprocess.DEVNULL, capture_output=True, check=False)
+        return subprocess.Popen(command, cwd=ROOT, env=environment, stdin=subprocess.DEVNULL, stdout=subprocess.PIPE,
+                                stderr=errors, **how)
     except FileNotFoundError:
         raise Failure(f'{command[0]} is not installed, or not on PATH (README.md, "What must be installed")') from None
-    if done.returncode != 0:
-        raise Failure(f'{" ".join(command)} failed with status {done.returncode}')
-    return done.stdout
+
+
+def version_of_rt():
+    with started(['rt', 'version'], subprocess.DEVNULL) as child:
+        version = child.communicate()[0]
+    if child.returncode != 0:
+        raise Failure(f'rt version failed with status {child.returncode}')
+    return version
 
 
 class Pair:
@@ -226,13 +256,12 @@ class Pair:
 
     @staticmethod
     def sources():
-        version = output_of(['rt', 'version'])
         paths = ['crates.txt']
         for crate in crates_of('pair'):
             for part in ('src', 'specs', 'proofs'):
                 if os.path.isdir(os.path.join(ROOT, 'crates', crate, part)):
                     paths += files_below(os.path.join('crates', crate, part))
-        return digest_of_files(paths, version)
+        return digest_of_files(paths, version_of_rt())
 
     @staticmethod
     def build():
@@ -324,22 +353,17 @@ def locked():
 
 
 def run_build(command, step=None, steps=0):
-    """Runs a build in a session of its own, none of whose processes outlive this call."""
-    environment = {name: value for name, value in os.environ.items() if name != 'CDPATH'}
-    try:
-        child = subprocess.Popen(command, cwd=ROOT, env=environment, stdin=subprocess.DEVNULL, stdout=subprocess.PIPE,
-                                 stderr=subprocess.STDOUT, start_new_session=True)
-    except FileNotFoundError:
-        raise Failure(f'{command[0]} is not installed, or not on PATH (README.md, "What must be installed")') from None
-    guard, alive = guarded(child.pid)
-    try:
-        pass_on(child, step, steps)
-        wait_for(child, None)
-    finally:
-        end_group(child)
-        os.kill(guard, signal.SIGKILL)
-        os.waitpid(guard, 0)
-        os.close(alive)
+    """Runs a build in a process group of its own, of which nothing outlives this call."""
+    with held_signals():
+        child = started(command, subprocess.STDOUT, start_new_session=True)
+        guard, alive = guarded(child.pid)
+        try:
+            pass_on(child, step, steps)
+        finally:
+            end_group(child)
+            os.kill(guard, signal.SIGKILL)
+            os.waitpid(guard, 0)
+            os.close(alive)
     if child.returncode != 0:
         raise Failure(f'{" ".join(command[:2])} failed with status {child.returncode}: what it said is above')
 
@@ -351,8 +375,7 @@ def guarded(group):
     if guard == 0:
         try:
             os.setsid()
-            for number in SIGNALS:
-                signal.signal(number, signal.SIG_IGN)
+            signal.pthread_sigmask(signal.SIG_BLOCK, SIGNALS)
             os.close(writer)
             os.read(reader, 1)
             os.killpg(group, signal.SIGKILL)
@@ -362,44 +385,42 @@ def guarded(group):
     return guard, writer
 
 
-def wait_for(child, seconds):
-    """Waits for the end of a child, which stays a zombie, so that its group's number is not given to others."""
-    until = None if seconds is None else time.monotonic() + seconds
-    while until is None or time.monotonic() < until:
-        options = os.WEXITED | os.WNOWAIT | (0 if until is None else os.WNOHANG)
-        if os.waitid(os.P_PID, child.pid, options) is not None:
-            return True
-        time.sleep(0.02)
-    return False
+def ended(child):
+    """Whether a child has ended. It stays a zombie, so that its group's number is not given to others."""
+    return os.waitid(os.P_PID, child.pid, os.WEXITED | os.WNOWAIT | os.WNOHANG) is not None
 
 
 def end_group(child):
+    """Ends what is left of a child's group, first by asking."""
     with contextlib.suppress(ProcessLookupError):
-        if not wait_for(child, 0.01):
+        if not ended(child):
             os.killpg(child.pid, signal.SIGTERM)
-            wait_for(child, GRACE)
+            until = time.monotonic() + GRACE
+            while not ended(child) and time.monotonic() < until:
+                time.sleep(0.02)
         os.killpg(child.pid, signal.SIGKILL)
     child.stdout.close()
     child.wait()
 
 
 def pass_on(child, step, steps):
-    """Each line of a build to standard error as it comes, and now and then how far it is."""
+    """Each line of a build to standard error as it comes, and now and then how far it is, until it ends."""
     began = told = time.monotonic()
-    done, rest = 0, b''
-    while True:
-        ready, _, _ = select.select([child.stdout], [], [], 1)
+    done, rest, is_open = 0, b'', True
+    while is_open or not ended(child):
+        ready, _, _ = select.select([child.stdout] if is_open else [], [], [], 0.1)
+        if held.came is not None:
+            raise Interrupted(held.came)
         if ready:
             data = os.read(child.stdout.fileno(), 65536)
-            *lines, rest = (rest + data).split(b'\n')
-            for line in lines if data else filter(None, [rest]):
+            is_open = data != b''
+            *lines, rest = (rest + (data or b'\n')).split(b'\n')
+            for line in filter(None, lines):
                 tell(line)
                 done += bool(step and step.match(line))
                 told = time.monotonic()
-            if not data:
-                return
-        elif wait_for(child, 0.01):
-            return
+        elif ended(child):
+            return  # though something else holds the pipe open
         elif time.monotonic() - told > TELL_EVERY:
             told = time.monotonic()
             say(f'{told - began:.0f} s' + (f', {done} of {steps} crates proved' if steps else ''))
@@ -633,29 +654,36 @@ def open_standard():
 
 
 def on_signal(number, _):
-    for each in SIGNALS:
-        signal.signal(each, signal.SIG_IGN)
-    raise Interrupted(number)
+    if held.depth:
+        held.came = number
+    else:
+        interrupt(number)
 
 
 def main():
     """The status is 0 to 2 only for a reply that was written: what Python gives for an error of its own is 1."""
+    status = 3
     try:
-        for number in SIGNALS:
-            if signal.getsignal(number) != signal.SIG_IGN:
-                signal.signal(number, on_signal)
-        open_standard()
-        return run()
+        try:
+            for number in SIGNALS:
+                if signal.getsignal(number) != signal.SIG_IGN:
+                    signal.signal(number, on_signal)
+            signal.pthread_sigmask(signal.SIG_UNBLOCK, SIGNALS)
+            open_standard()
+            status = run()
+        finally:
+            signal.pthread_sigmask(signal.SIG_BLOCK, SIGNALS)
     except Interrupted as interrupted:
         say('interrupted')
         signal.signal(interrupted.args[0], signal.SIG_DFL)
+        signal.pthread_sigmask(signal.SIG_UNBLOCK, SIGNALS)
         os.kill(os.getpid(), interrupted.args[0])
     except Failure as failure:
         say(str(failure))
     except BaseException as error:  # pylint: disable=broad-except
         say(f'{type(error).__name__}: {error}'.replace('\n', ' '))
-    return 3
+    os._exit(status)
 
 
 if __name__ == '__main__':
-    sys.exit(main())
+    main()

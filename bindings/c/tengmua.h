@@ -5,7 +5,7 @@
  * content and every length, keeps nothing between calls and asks the system for nothing, so any thread may call it. Its stack
  * stays below 128 KB.
  *
- * What each reply means is paper 01's: "equal" says that both programs leave the same value in each compared element for every
+ * What each reply means is in docs/FORMAT.md: "equal" says that both programs leave the same value in each compared element for every
  * starting content and every meaning of the operators and constants. The promises are crates/cabi/src/lib.rt's. */
 #ifndef TENGMUA_H
 #define TENGMUA_H

@@ -1,4 +1,4 @@
-//! Loop pair checker, written separately from the paper `01-scope.md`.
+//! Loop pair checker, written separately (README.md).
 //!
 //! Two encoded loop programs, or two update lists, go in; a reply comes out.
 

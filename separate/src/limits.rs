@@ -1,4 +1,4 @@
-//! The limits of the paper, and the lengths of lent memory.
+//! The limits of docs/FORMAT.md, and the lengths of lent memory.
 
 pub const PROGRAM_BYTES: usize = 16_384;
 

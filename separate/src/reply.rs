@@ -1,6 +1,6 @@
 //! What an entry answers.
 
-/// The questions of the paper, by their numbers.
+/// The questions of docs/QUESTIONS.md, by their numbers.
 #[derive(Clone, Copy, Debug, PartialEq, Eq)]
 #[repr(u8)]
 pub enum Question {

@@ -1,5 +1,4 @@
-//! What the paper asks to be run beside the table, and the other limits: the
-//! greatest that passes and the least that does not.
+//! Each limit: the greatest that passes and the least that does not.
 
 mod common;
 use common::{asm, line, line_of_texts, refusal, refusal_of_text};
