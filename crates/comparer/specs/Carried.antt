@@ -52,7 +52,7 @@ abbrev pub EqualAnswered : Type 1
 EqualAnswered =
     (long : Bool) (s : List ℕ) (r : Reply) (n : ℕ) → replySays r ≡ entryReply long (inputReply s) → r ≡ Equal n → SameValues (leftIn s) (rightIn s) n
 
--- The starred rows, for what `compare_input` answers in enough memory and `line_of` makes of it: its bytes are the line as the paper prints it.
+-- The starred rows, for what `compare_input` answers in enough memory and `line_of` makes of it: its bytes are the line as docs/FORMAT.md prints it.
 abbrev pub StarredAnswered : Type 0
 StarredAnswered =
     (any : List ℕ) (x : Row) → List·Memᴰ x starred → (r : Reply) (line : Line)

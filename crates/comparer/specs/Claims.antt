@@ -84,7 +84,7 @@ LayoutInjective = (l m : Listed) (n k : ℕ) → allowed l ≡ true → allowed 
 abbrev pub LayoutFits : Type 0
 LayoutFits = (l : Listed) (n : ℕ) → allowed l ≡ true → 30818 ≤ n → length (layout l n) ≡ n
 
--- Question 26 as the paper asks it: yes for what the layout gives for some allowed list, and for nothing else.
+-- Question 26 as docs/QUESTIONS.md asks it: yes for what the layout gives for some allowed list, and for nothing else.
 abbrev pub Question26 : Type 0
 Question26 = (w : List ℕ) → (accepted w ≡ true) ↔ ((l : Listed) × (allowed l ≡ true) × (w ≡ layout l (length w)))
 
@@ -109,7 +109,7 @@ pub record SameValues (one other : List ℕ) (n : ℕ) : Type 1 where
 abbrev pub EqualInput : Type 1
 EqualInput = (s : List ℕ) (n : ℕ) → inputReply s ≡ equal n → SameValues (leftIn s) (rightIn s) n
 
--- The ten starred rows, each with its line as the paper prints it, for any right-hand bytes where the paper says "any".
+-- The ten starred rows, each with its line as docs/FORMAT.md prints it, for any right-hand bytes where that page says "any".
 abbrev pub StarredRows : Type 0
 StarredRows = (any : List ℕ) → map (λ (x : Row). lineOf (inputReply (framed (x .one) (x .other any)))) starred ≡ map (λ (x : Row). x .line) starred
 

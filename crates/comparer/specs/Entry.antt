@@ -1,4 +1,4 @@
--- The replies of the entries: two lists in words, two programs, framed input (paper 01, "The questions" and "The program").
+-- The replies of the entries: two lists in words, two programs, framed input (docs/QUESTIONS.md, and docs/FORMAT.md, "The program").
 use Prim.Native.Nat.{ℕ}
 use mathlib.Core.List.{List}
 use mathlib.Core.Bool.{Bool, _&&_}

@@ -1,4 +1,4 @@
--- The line that the program prints (paper 01, "The program"), as ASCII codes.
+-- The line that the program prints (docs/FORMAT.md, "The program"), as ASCII codes.
 use Prim.Native.Nat.{ℕ, zero, suc, _+_, _/_, _%_}
 use Prim.Native.Char.{code}
 use Prim.Native.String.{String, [] as end, _∷_ as _then_}

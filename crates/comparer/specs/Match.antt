@@ -1,4 +1,4 @@
--- The match of two update lists (paper 01, "The match"), with questions 22 to 24.
+-- The match of two update lists (docs/FORMAT.md, "The match"), with questions 22 to 24.
 use Prim.Native.Nat.{ℕ, zero, suc, _+_, _/_, _%_, _^_}
 use mathlib.Core.List.{List, [], _∷_, _++_}
 use mathlib.Core.Bool.{Bool, true, false, _&&_, _||_, cond}

@@ -1,4 +1,4 @@
--- Meanings, contents, and what a list of updates leaves (paper 01, "The match" and "The reordering rule").
+-- Meanings, contents, and what a list of updates leaves (docs/FORMAT.md, "The match" and "The reordering rule").
 use Prim.Native.Nat.{ℕ}
 use mathlib.Core.List.{List, [], _∷_}
 use mathlib.Core.Bool.{Bool, cond}

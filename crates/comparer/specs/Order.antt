@@ -1,4 +1,4 @@
--- New orders of an update list (paper 01, "The reordering rule").
+-- New orders of an update list (docs/FORMAT.md, "The reordering rule").
 use Prim.Native.Nat.{ℕ, _<_}
 use mathlib.Core.Path.{_≡_}
 use mathlib.Core.List.{List, map}

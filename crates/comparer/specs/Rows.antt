@@ -1,4 +1,4 @@
--- The ten starred rows of paper 01, "Known pairs".
+-- The ten starred rows of docs/FORMAT.md, "Known pairs".
 use Prim.Native.Nat.{ℕ, _/_, _%_}
 use mathlib.Core.List.{List, [], _∷_, _++_}
 use lib.ListN.{length, set}

@@ -1,4 +1,4 @@
-// Compares two update lists, or two programs: the reply of paper 01.
+// Compares two update lists, or two programs: the reply of docs/FORMAT.md.
 mod compare;
 mod evaluate;
 mod line;

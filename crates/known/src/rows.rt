@@ -1,4 +1,4 @@
-// The known programs: paper 01's table where it is decided by reading, and each question's corners.
+// The known programs (docs/FORMAT.md, "Known pairs") that are decided by reading, and each question's corners.
 use model::sizes::MOST_BYTES;
 use reader::Verdict;
 

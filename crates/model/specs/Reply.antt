@@ -1,4 +1,4 @@
--- The three replies of paper 01.
+-- The three replies (docs/FORMAT.md, "The reply").
 use Prim.Native.Nat.{ℕ}
 use mathlib.Core.Bool.{Bool, true, false}
 

@@ -1,4 +1,4 @@
--- Update lists (paper 01, "The run"), and terms, which are the same kind of tree (paper 01, "The match").
+-- Update lists (docs/FORMAT.md, "The run"), and terms, which are the same kind of tree (docs/FORMAT.md, "The match").
 use Prim.Native.Nat.{ℕ, suc, _+_}
 use mathlib.Core.List.{List, [], _∷_}
 use mathlib.Core.Bool.{Bool, false, _&&_, _||_}
@@ -8,7 +8,7 @@ use Rattle.model.specs.Test.{total}
 use Rattle.model.specs.Tables.{Tables}
 
 -- An expression with its reads turned into cells and its forms into numbers.
--- A term, the paper's word for a value, is such a tree too: its cells are starting cells.
+-- A term, which is what docs/FORMAT.md calls a value, is such a tree too: its cells are starting cells.
 mutual
   pub data Tree : Type 0 where
     cell : ℕ → ℕ → Tree
@@ -20,7 +20,7 @@ mutual
     nil : Trees
     cons : Tree → Trees → Trees
 
--- An update, the paper's word for an executed statement: target cell and expression.
+-- An update, which is what docs/FORMAT.md calls an executed statement: target cell and expression.
 pub record Update : Type 0 where
   pub array : ℕ
   pub target : ℕ

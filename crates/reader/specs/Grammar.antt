@@ -1,4 +1,4 @@
--- The grammar of a program file (paper 01, "The file"), with the questions 2 to 14 at their fields.
+-- The grammar of a program file (docs/FORMAT.md, "The file"), with the questions 2 to 14 at their fields.
 use Prim.Native.Nat.{ℕ, zero, suc, _+_}
 use mathlib.Core.List.{List, [], _∷_}
 use mathlib.Core.Bool.{Bool, true, false, _&&_, _||_, not}

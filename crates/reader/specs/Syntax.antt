@@ -1,4 +1,4 @@
--- What a program file says (paper 01, "The file").
+-- What a program file says (docs/FORMAT.md, "The file").
 use Prim.Native.Nat.{ℕ, suc, _+_}
 use mathlib.Core.List.{List}
 use lib.IntN.{ℤ}

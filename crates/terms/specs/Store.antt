@@ -20,7 +20,7 @@ use Rattle.terms.specs.Mix.{bucketOf}
 
 -- ---- answers
 
--- a value, or a "no" to the question of paper 01 with this number
+-- a value, or a "no" to the question with this number
 pub data Says (A : Type 0) : Type 0 where
   gives : A → Says A
   refused : ℕ → Says A

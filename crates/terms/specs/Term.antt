@@ -1,4 +1,4 @@
--- Terms (paper 01, "The match"): alike part for part, and how many different ones there are. A term is a `Tree`.
+-- Terms (docs/FORMAT.md, "The match"): alike part for part, and how many different ones there are. A term is a `Tree`.
 use Prim.Native.Nat.{ℕ}
 use mathlib.Core.List.{List, [], _∷_, _++_}
 use mathlib.Core.Bool.{Bool, true, false, _&&_, _||_, cond}

@@ -119,7 +119,7 @@ module _ (l : Listed) where
       (join (leb (nodes (l .updates)) 8192) asked (le-leb (nodes (l .updates)) 8192 (a .small))
       (join (every (allowedUpdate (l .tables)) (l .updates)) (readAll (l .tables .arrays) [] (l .updates)) (a .each) (a .reads))))
 
--- 32 signed bits, as the paper counts and as the language does
+-- 32 signed bits, as question 21 counts and as the language does
 pub fits32-signed : (z : ℤ) → fits32 z ≡ true → SFits w32 z
 fits32-signed (pos n) e = record { sfits = let h = leb-true n 2147483647 e in omega arith }
 fits32-signed (negsuc n) e = record { sfits = let h = leb-true n 2147483647 (both (leb n 2147483647) true e .0) in omega arith }

@@ -20,7 +20,7 @@ use Rattle.unroller.specs.declared.lists.Moved.the-variants.{To, Stop}
 use Rattle.unroller.specs.declared.lists.Declared.{Declared}
 use Rattle.unroller.specs.declared.lists.Declared.the-variants.{Is, Not}
 
--- the reply of paper 01 that each case stands for; a list alone is the left one
+-- the reply that each case stands for; a list alone is the left one
 abbrev pub checkedSays : Checked → Unroll.Checked
 checkedSays checked.Accepted = Unroll.accepts
 checkedSays checked.Refused = Unroll.refuses left 26 0

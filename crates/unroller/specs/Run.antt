@@ -1,4 +1,4 @@
--- The run of a program (paper 01, "The run"): its updates in order, or the first of the questions 15 to 21 whose answer is no.
+-- The run of a program (docs/FORMAT.md, "The run"): its updates in order, or the first of the questions 15 to 21 whose answer is no.
 use Prim.Native.Nat.{ℕ, zero, suc, _+_, _*_}
 use mathlib.Core.List.{List, [], _∷_, _++_}
 use mathlib.Core.Bool.{Bool, true, false, _&&_, _||_, not}

@@ -15,7 +15,7 @@ use Rattle.unroller.specs.Unroll as Unroll
 use Rattle.unroller.specs.declared.entry.Unrolled.{Unrolled}
 use Rattle.unroller.specs.declared.entry.Unrolled.the-variants as unrolled
 
--- the reply of paper 01 that each case stands for; a program alone is the left one
+-- the reply that each case stands for; a program alone is the left one
 abbrev pub unrolledSays : Unrolled → Unroll.Unrolled
 unrolledSays (unrolled.Updates n) = Unroll.updates n
 unrolledSays (unrolled.Refused question place) = Unroll.refused left question place
