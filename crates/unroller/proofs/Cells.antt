@@ -181,8 +181,8 @@ module _ (s : List ℕ) (loops : ℕ) (is : List ℤ) where
     pub loop-no : (at n e number : ℕ) (r : Cell) → e ≡ getD es k 0 → Subscript s at loops is e r → r ≡ cell.No number → CellsFrom s at loops is n (drop k es) (cell.No number)
     loop-no at n e number r q x y = rw (opened, ← q) (cells-no at n e (drop (k + 1) es) number (rw y at x))
 
-    pub loop-is : (at n e c to : ℕ) (r a : Cell) → e ≡ getD es k 0 → Subscript s at loops is e r → r ≡ cell.Is c to → CellsFrom s to loops is (n * e + c) (drop (k + 1) es) a → CellsFrom s at loops is n (drop k es) a
-    loop-is at n e c to r a q x y w = rw (opened, ← q) (cells-step at n e (drop (k + 1) es) c to a (rw y at x) w)
+    pub loop-is : (at n e c to m : ℕ) (r a : Cell) → e ≡ getD es k 0 → Subscript s at loops is e r → r ≡ cell.Is c to → CellsFrom s to loops is m (drop (k + 1) es) a → m ≡ n * e + c → CellsFrom s at loops is n (drop k es) a
+    loop-is at n e c to m r a q x y w f = rw (opened, ← q) (cells-step at n e (drop (k + 1) es) c to a (rw y at x) (rw f at w))
 
   pub loop-end : (es : List ℕ) (k at n : ℕ) → length es ≤ k → CellsFrom s at loops is n (drop k es) (cell.Is n at)
   loop-end es k at n h = cells-end at n (drop k es) (let l = length-drop k es in omega arith)
@@ -201,6 +201,9 @@ grows k n e c h g l =
     (let a : (n + 1) * e ≤ most k * 65536 = mul-le-mul (omega arith) (omega arith) in
     let b = add-mul n 1 e in
     omega arith)
+
+pub grows-to : (k n e c m : ℕ) → n < most k → e < 65536 → c < e → m ≡ n * e + c → m < most (k + 1)
+grows-to k n e c m h g l f = rw f (grows k n e c h g l)
 
 pub cell-fits : (k n e c : ℕ) → k < 3 → n < most k → e < 65536 → c < e → n * e + c < 281474976710656
 cell-fits k n e c h l g m = go k h (grows k n e c l g m)

@@ -2,7 +2,7 @@ use borrow.Author.Needs.{needs}
 use native.Mathlib.Omega.{arith}
 use Prim.Native.Nat.{_-_, _≤_, _<_}
 use lib.ListN.{drop}
-use Rattle.unroller.proofs.Cells.{loop-no, loop-is, loop-end, below-is, most, grows, cell-fits}
+use Rattle.unroller.proofs.Cells.{loop-no, loop-is, loop-end, below-is, most, grows-to, cell-fits}
 use Rattle.model.specs.Tables.{arrayAt}
 use Rattle.reader.proofs.Flattened.{dimensions-three}
 use Rattle.reader.specs.Entries.{tablesIn}
@@ -60,7 +60,7 @@ loop-less : tie.Need-loop-less Inv-loop μ-loop
 loop-less c = omega arith
 
 loop-again : tie.Need-loop-again Inv-loop μ-loop
-loop-again c = let a = c .before .before .before .before .before .before .before .before .before .before .before .args in let l = c .before .before .before .before .before .before .loop in let b = below-is _ _ _ (c .before .before .before .subscript-at .result) (c .before .before .before .subscript-at .ensures .1) (c .before .v .given .1) in (omega arith, grows (l .k) (l .cell) (c .before .before .before .before .extent-of .result) (c .before .v .given .0 .0) (l .inv .1) (c .before .before .before .before .extent-of .ensures .1) b, λ r z. l .inv .2 r (loop-is _ _ _ (arrayAt (tablesIn (a .tables .now) .arrays) (a .array) .extents) (l .k) (omega arith) (l .next) (l .cell) (c .before .before .before .before .extent-of .result) _ _ (c .before .before .before .subscript-at .result) r (c .before .before .before .before .extent-of .ensures .0) (c .before .before .before .subscript-at .ensures .0) (c .before .v .given .1) z))
+loop-again c = let a = c .before .before .before .before .before .before .before .before .before .before .before .args in let l = c .before .before .before .before .before .before .loop in let b = below-is _ _ _ (c .before .before .before .subscript-at .result) (c .before .before .before .subscript-at .ensures .1) (c .before .v .given .1) in (omega arith, grows-to (l .k) (l .cell) (c .before .before .before .before .extent-of .result) (c .before .v .given .0 .0) _ (l .inv .1) (c .before .before .before .before .extent-of .ensures .1) b (omega arith), λ r z. l .inv .2 r (loop-is _ _ _ (arrayAt (tablesIn (a .tables .now) .arrays) (a .array) .extents) (l .k) (omega arith) (l .next) (l .cell) (c .before .before .before .before .extent-of .result) _ _ _ (c .before .before .before .subscript-at .result) r (c .before .before .before .before .extent-of .ensures .0) (c .before .before .before .subscript-at .ensures .0) (c .before .v .given .1) z (omega arith)))
 
 returns-3 : tie.Need-returns-3 Inv-loop μ-loop
 unfolding CellOf
