@@ -1,8 +1,8 @@
 // Finds the first element at which two lists leave different terms.
 use crate::evaluate::apply_updates;
-use crate::evaluate::wide;
 use crate::reply::Reply;
 use crate::reply::Side;
+use model::numbers::wide;
 use model::sizes::CELL_WORDS;
 use model::sizes::HEADER_WORDS;
 use model::sizes::MOST_CELLS;

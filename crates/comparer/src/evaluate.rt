@@ -1,4 +1,5 @@
 // Works out the updates of a list: each value as a term of the store.
+use model::numbers::wide;
 use model::sizes::CELL_WORDS;
 use model::sizes::HEADER_WORDS;
 use model::sizes::MOST_TERMS;
@@ -21,12 +22,6 @@ struct Row {
     at: usize,
     count: u32,
     ids: [u32; 4],
-}
-
-pub(crate) fn wide(x: u32) -> usize
-    ensures { λ r. ⌜ r ≡ x ⌝ }
-{
-    x as usize
 }
 
 fn no_room() -> Step

@@ -4,6 +4,7 @@ use crate::lists::long_enough;
 use crate::memory::clear_used;
 use crate::reply::Reply;
 use crate::reply::Side;
+use model::byte::wide;
 use model::memory::clear;
 use model::sizes::MOST_BYTES;
 use unroller::Unrolled;
@@ -110,12 +111,6 @@ pub fn compare_programs(
         ) ⌝ }
 {
     compare_programs_masked(left, right, ALL_BITS, left_list, right_list, cells, terms)
-}
-
-fn wide(x: u8) -> usize
-    ensures { λ r. ⌜ r ≡ x ⌝ }
-{
-    x as usize
 }
 
 // A refusal before any program is read.

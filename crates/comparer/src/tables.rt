@@ -1,9 +1,10 @@
 // Questions 22 and 23, over the words of the tables (docs/LAYOUT.md, "An update list in words").
-use crate::evaluate::wide;
 ghost use mathlib.Core.Path.{_≡_};
 ghost use Prim.Native.Nat.{_≤_, min};
 ghost use lib.ListN.{length};
 ghost use Rattle.comparer.specs.Headers.{Counted, Leads, FirstApart, Ends, ArraysTell, OperatorsTell, TablesTell};
+use model::numbers::least;
+use model::numbers::wide;
 
 // The first number at which two tables differ.
 enum Table {
@@ -16,12 +17,6 @@ pub(crate) enum Tables {
     Same,
     Arrays(usize),
     Operators(usize),
-}
-
-fn least(n: usize, m: usize) -> usize
-    ensures { λ r. ⌜ r ≡ min n m ⌝ }
-{
-    if n < m { n } else { m }
 }
 
 // Locals come last: the arrays before the first one are the non-local ones.

@@ -1,5 +1,6 @@
 // Reads a stream of framed pairs (separate/README.md, "Streams") from standard input and prints the line of each.
 ghost use Prim.Native.Nat.{_≤_};
+use model::byte::wide;
 use model::sizes::CELL_WORDS;
 use model::sizes::LIST_WORDS;
 use model::sizes::TERM_WORDS;
@@ -56,12 +57,6 @@ fn length() -> usize {
         return 4294967296;
     }
     wide(head[0]) + 256 * (wide(head[1]) + 256 * (wide(head[2]) + 256 * wide(head[3])))
-}
-
-fn wide(x: u8) -> usize
-    ensures { λ r. ⌜ r ≤ 255 ⌝ }
-{
-    x as usize
 }
 
 fn print(bytes: &[u8], n: usize) {

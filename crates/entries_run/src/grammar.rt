@@ -10,8 +10,8 @@ use crate::numbers::say_place;
 use crate::numbers::say_signed;
 use crate::numbers::say_signed_field;
 use crate::numbers::say_small;
-use crate::numbers::wide;
 use crate::tabled::say_tables;
+use model::byte::wide;
 use reader::Verdict;
 use reader::tables::FlatTables;
 

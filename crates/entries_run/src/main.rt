@@ -13,7 +13,7 @@ use crate::numbers::Args;
 use crate::numbers::number_at;
 use crate::numbers::number_of;
 use crate::numbers::refused;
-use crate::numbers::wide;
+use model::byte::wide;
 use reader::tables::FLAT;
 
 fn main() {

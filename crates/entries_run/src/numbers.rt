@@ -1,5 +1,6 @@
 // Numbers from the bytes of a record, and numbers on the line.
 ghost use Prim.Native.Nat.{_≤_};
+use model::byte::wide;
 use reader::fields::Field;
 use reader::fields::Place;
 use reader::fields::Signed;
@@ -12,12 +13,6 @@ pub(crate) struct Args {
     pub d: usize,
     pub e: usize,
     pub f: usize,
-}
-
-pub(crate) fn wide(x: u8) -> usize
-    ensures { λ r. ⌜ r ≤ 255 ⌝ }
-{
-    x as usize
 }
 
 fn quad(a: u8, b: u8, c: u8, d: u8) -> u32 {

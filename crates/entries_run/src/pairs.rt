@@ -5,9 +5,9 @@ use crate::numbers::Args;
 use crate::numbers::low_byte;
 use crate::numbers::refused;
 use crate::numbers::say;
-use crate::numbers::wide;
 use comparer::reply::Reply;
 use comparer::reply::Side;
+use model::byte::wide;
 
 pub(crate) fn called(entry: usize, x: Args, s: &[u8]) {
     match entry {

@@ -1,5 +1,6 @@
 // Reads a stream of list pairs (separate/README.md, "Streams") from standard input and prints the line of each.
 ghost use Prim.Native.Nat.{_≤_};
+use model::numbers::wide;
 use model::sizes::CELL_WORDS;
 use model::sizes::TERM_WORDS;
 
@@ -96,10 +97,6 @@ fn length() -> usize {
         return 0;
     }
     wide(quad(head[0], head[1], head[2], head[3]))
-}
-
-fn wide(x: u32) -> usize {
-    x as usize
 }
 
 fn print(bytes: &[u8], n: usize) {

@@ -9,6 +9,7 @@ ghost use Rattle.reader.specs.Field.{field, byte, u16, u32, i16};
 ghost use Rattle.reader.specs.Grammar.{index, step};
 ghost use Rattle.reader.specs.Answers.{fieldSays, signedSays};
 ghost use Rattle.reader.specs.Places.{bytesIn};
+use model::byte::wide;
 
 // A number and the place past it, or a question's number and place.
 pub enum Field {
@@ -34,12 +35,6 @@ pub enum Width {
 pub enum Place {
     Next(usize),
     Not(u8, usize),
-}
-
-pub(crate) fn wide(x: u8) -> usize
-    ensures { λ r. ⌜ r ≡ x ⌝ }
-{
-    x as usize
 }
 
 // Two's complement of a byte.

@@ -7,7 +7,8 @@ ghost use lib.Seq.{sets};
 ghost use Rattle.model.specs.Tables.{arrayAt};
 ghost use Rattle.reader.specs.Entries.{cut, viewed, tablesIn, flattened};
 use crate::fields::Place;
-use crate::fields::wide;
+use model::byte::wide;
+use model::numbers::least;
 
 // Numbers of tables that are lent as one array (`viewed` says which stand where), and where the bases begin.
 pub const FLAT: usize = 115;
@@ -93,22 +94,16 @@ pub fn flat(tables: Tables) -> FlatTables
     r
 }
 
-fn at_most(n: usize, most: usize) -> usize
-    ensures { λ r. ⌜ r ≡ min n most ⌝ }
-{
-    if n < most { n } else { most }
-}
-
 pub fn operator_count(tables: &FlatTables) -> usize
     ensures { λ r. ⌜ r ≡ length (tablesIn (now (tables .entry)) .arities) ⌝ }
 {
-    at_most(tables[0], 16)
+    least(tables[0], 16)
 }
 
 pub fn array_count(tables: &FlatTables) -> usize
     ensures { λ r. ⌜ r ≡ length (tablesIn (now (tables .entry)) .arrays) ⌝ }
 {
-    at_most(tables[17], 16)
+    least(tables[17], 16)
 }
 
 // The arity of an operator; 0 where it is not declared.
@@ -138,7 +133,7 @@ pub fn dimensions_of(tables: &FlatTables, array: usize) -> usize
     ensures { λ r. ⌜ r ≡ length (arrayAt (tablesIn (now (tables .entry)) .arrays) array .extents) ⌝ }
 {
     if array < array_count(tables) {
-        at_most(tables[34 + array], 3)
+        least(tables[34 + array], 3)
     } else {
         1
     }
@@ -150,7 +145,7 @@ pub fn extent_of(tables: &FlatTables, array: usize, dimension: usize) -> usize
 {
     if array < array_count(tables) {
         if dimension < dimensions_of(tables, array) {
-            return at_most(tables[50 + 3 * array + dimension], 65535);
+            return least(tables[50 + 3 * array + dimension], 65535);
         }
     }
     0

@@ -5,6 +5,7 @@ ghost use lib.ListN.{length};
 ghost use Rattle.terms.specs.Mix.{eightfoldOf, stepOf, bucketOf};
 ghost use Rattle.terms.specs.Store.{nodeOf, nodeAt, eqNode, written, linkedIn, findOf, saysOf, startSays, out, internOf, keptOf, startsAt};
 ghost use Rattle.model.specs.Memory.{termWords};
+use model::numbers::wide;
 use model::sizes::MOST_TERMS;
 use model::sizes::TERM_WORDS;
 
@@ -44,12 +45,6 @@ pub enum Start {
 enum Found {
     Here(u32),
     Missing,
-}
-
-fn wide(x: u32) -> usize
-    ensures { λ r. ⌜ r ≡ x ⌝ }
-{
-    x as usize
 }
 
 fn eightfold(h: u32) -> u32

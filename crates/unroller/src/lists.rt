@@ -12,6 +12,7 @@ ghost use Rattle.unroller.specs.Unroll.{checkReply};
 ghost use Rattle.unroller.specs.State.{readableIn, writableIn, spot, Filled, stateOf};
 ghost use Rattle.unroller.specs.CheckAnswers.{checkedSays, Either, Zeros, Arities, factorOf, Declares, Arrays, Header, Leaf, answerOf, Reads, Follows, ReadsAll, Updates, Follow};
 ghost use Rattle.model.specs.Memory.{headerWords};
+use model::numbers::wide;
 use model::sizes::HEADER_WORDS;
 use model::sizes::LIST_WORDS;
 use model::sizes::MOST_CELLS;
@@ -39,13 +40,6 @@ enum Declared {
 
 // A row of cells for each of 16 arrays.
 const STATE: usize = 32768;
-
-// A call asks no proof that the word fits, where a cast would at each place.
-pub(crate) fn wide(x: u32) -> usize
-    ensures { λ r. ⌜ r ≡ x ⌝ }
-{
-    x as usize
-}
 
 // Are the n words from `from` on 0?
 fn zeros_at(list: &[u32], from: usize, n: usize) -> bool

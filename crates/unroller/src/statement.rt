@@ -15,9 +15,9 @@ ghost use Rattle.unroller.specs.Writes.{InExtent, Below, Subscript, Cell
 ghost use Rattle.model.specs.Memory.{listWords};
 use crate::forms::Valued;
 use crate::forms::value_at;
-use crate::lists::wide;
 use crate::walk::Flags;
 use crate::walk::Walk;
+use model::numbers::wide;
 use model::sizes::HEADER_WORDS;
 use model::sizes::LIST_WORDS;
 use model::sizes::MOST_CELLS;

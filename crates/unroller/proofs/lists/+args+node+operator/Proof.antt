@@ -21,7 +21,7 @@ use Rattle.unroller.proofs.lists.operator.Reads as operator
 use Rattle.unroller.proofs.lists.operator.Kinds as operator-kinds
 use Rattle.unroller.proofs.lists.+args+node+operator.Lts-operator as operator-lts
 use Rattle.unroller.proofs.lists.leaf.Reads as leaf-reads
-use Rattle.unroller.proofs.lists.wide.Reads as wide-reads
+use Rattle.model.proofs.numbers.wide.Reads as wide-reads
 use Rattle.unroller.proofs.lists.+args+node+operator.{statement}
 use Rattle.unroller.proofs.lists.+args+node+operator.Tie.{close}
 

@@ -1,0 +1,8 @@
+// Bytes as numbers.
+ghost use mathlib.Core.Path.{_≡_};
+
+pub fn wide(x: u8) -> usize
+    ensures { λ r. ⌜ r ≡ x ⌝ }
+{
+    x as usize
+}
