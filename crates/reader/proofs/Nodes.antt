@@ -9,7 +9,7 @@ use borrow.Author.Tests.{eq-eqb, ne-eqb}
 use Rattle.model.specs.Tables.{Tables, arrayAt}
 use Rattle.reader.specs.Field.{Outcome, got, no, Reader, andThen, byte, times}
 use Rattle.reader.specs.Syntax.{Expr, Exprs, count, counts}
-use Rattle.reader.specs.Syntax.Expr.{read, apply, literal, named}
+use Rattle.reader.specs.Syntax.Expr.{read, apply}
 use Rattle.reader.specs.Syntax.Exprs.{none, more}
 use Rattle.reader.specs.Grammar.{form, subscripts, index, readOf, applyOf, node, applied}
 use Rattle.reader.specs.Answers.{through, ended, fieldSays, placeSays}
@@ -17,9 +17,13 @@ use Rattle.reader.specs.Entries.{leafOf, arityOf}
 use Rattle.reader.specs.declared.fields.Field.{Field}
 use Rattle.reader.specs.declared.fields.Field.the-variants as field
 use Rattle.reader.specs.declared.fields.Place.{Place}
-use Rattle.reader.proofs.Steps.{field-got, field-no, through-got, through-no, made, refused, step, stop, one-made, remade, index-got, index-no}
+use Rattle.reader.proofs.Steps.{field-got, field-no, through-got, through-no, made, refused, step, stop, one-made, through-same, remade, index-got, index-no}
 use Rattle.reader.proofs.Binds.{not-got, read-by}
-use Rattle.reader.proofs.Forward.{held-got, Counted, Counteds, index-held, nodes-held, arguments-held}
+use Rattle.reader.proofs.Forward.{held-got, Counted, Counteds, byte-held, index-held, nodes-held, arguments-held}
+
+-- a code takes a byte
+pub code-fits : (s : List ℕ) (at : ℕ) {x next : ℕ} → byte s at ≡ got x next → next ≡ at + 1
+code-fits s at e = let h = held-got (λ x next. (next ≡ at + 1) × (next ≤ length s)) (byte-held s at) e in h .0
 
 module _ (t : Tables) (s : List ℕ) where
   -- the arity of an operator, by its number
@@ -113,63 +117,40 @@ module _ (t : Tables) (loops : ℕ) (s : List ℕ) where
     pub operator-is : {k past c : ℕ} → r ≡ field.Is k past → c ≡ k + 1 → got c past ≡ through count (applied t loops left p s at)
     operator-is v d = arity-by t s left p at e λ o w x y. applied-some left p at w (apply-is (left - 1) at x y r h v d)
 
--- arguments that remain, the first of them read by `one`
-module _ (one : Reader Expr) (s : List ℕ) where
-  pub args-none : (n at : ℕ) → n ≡ 0 → got 0 at ≡ through counts (times none more one n s at)
-  unfolding times through counts
-  args-none zero at h = refl
-  args-none (suc n) at h = absurd (omega arith)
+-- arguments in a row, as a loop takes them, c nodes being counted
+pub args-none : (c : ℕ) (m : Outcome Exprs) → c ≡ 0 → through (λ es. c + counts es) m ≡ through counts m
+args-none c m h = through-same (λ es. c + counts es) counts m (λ es. omega arith)
 
-  -- a single one is an expression
-  pub args-one : (at : ℕ) → through counts (times none more one 1 s at) ≡ through count (one s at)
-  unfolding times counts
-  args-one at = sym (remade (λ e. more e none) counts count (one s at) (λ e. omega arith))
+module _ (one : Reader Expr) (s : List ℕ) (c : ℕ) where
+  pub args-end : (n at : ℕ) → n ≤ 0 → got c at ≡ through (λ es. c + counts es) (times none more one n s at)
+  unfolding times through counts
+  args-end zero at h = let e : c ≡ c + 0 = omega arith in ap (λ (x : ℕ). got x at) e
+  args-end (suc n) at h = absurd (omega arith)
 
   module _ (at : ℕ) {r : Field} (e : fieldSays r ≡ through count (one s at)) where
-    pub args-stop : (n : ℕ) {k p : ℕ} → 0 < n → r ≡ field.Not k p → no k p ≡ through counts (times none more one n s at)
+    pub args-stop : (n : ℕ) {k p : ℕ} → 0 < n → r ≡ field.Not k p → no k p ≡ through (λ es. c + counts es) (times none more one n s at)
     unfolding times
     args-stop zero h q = absurd (omega arith)
-    args-stop (suc n) h q = stop (through counts) (one s at) _ (through-no count (one s at) (field-no e q)) (refused counts refl)
+    args-stop (suc n) h q = stop (through (λ es. c + counts es)) (one s at) _ (through-no count (one s at) (field-no e q)) (refused _ refl)
 
-    pub args-last : (n : ℕ) {k next : ℕ} → n ≡ 1 → r ≡ field.Is k next → got k next ≡ through counts (times none more one n s at)
-    args-last n h q = sym (field-got e q) ∙ sym (args-one at) ∙ ap (λ (n : ℕ). through counts (times none more one n s at)) (sym h)
-
-    module _ {k next : ℕ} (q : r ≡ field.Is k next) {m : Field} {l : ℕ} (f : fieldSays m ≡ through counts (times none more one l s next)) where
-      pub args-cut : (n : ℕ) {j p : ℕ} → n ≡ suc l → m ≡ field.Not j p → no j p ≡ through counts (times none more one n s at)
-      unfolding times
-      args-cut zero h v = absurd (omega arith)
-      args-cut (suc n) h v =
-          let g = through-got count (one s at) (field-got e q) in
-          let w : l ≡ n = omega arith in
-          let b = rw w at f in
-          step (through counts) (one s at) _ (g .1) (stop (through counts) (times none more one n s next) _ (through-no counts (times none more one n s next) (field-no b v)) (refused counts refl))
-
-      pub args-all : (n : ℕ) {j end c : ℕ} → n ≡ suc l → m ≡ field.Is j end → c ≡ k + j → got c end ≡ through counts (times none more one n s at)
-      unfolding times counts
-      args-all zero h v d = absurd (omega arith)
-      args-all (suc n) {j} {end} {c} h v d =
-          let g = through-got count (one s at) (field-got e q) in
-          let w : l ≡ n = omega arith in
-          let b = rw w at f in
-          let i = through-got counts (times none more one n s next) (field-got b v) in
-          let x : c ≡ count (g .0) + counts (i .0) = omega (arith, g .2, i .2) in
-          step (through counts) (one s at) _ (g .1) (step (through counts) (times none more one n s next) _ (i .1) (ap (λ (y : ℕ). got y end) x ∙ made counts refl))
-
-count-some : (e : Expr) → 1 ≤ count e
-unfolding count
-count-some (read a fs) = omega arith
-count-some (apply o es) = omega arith
-count-some (literal f) = omega arith
-count-some (named n) = omega arith
+    pub args-step : (n l d : ℕ) {k next : ℕ} → r ≡ field.Is k next → n ≡ suc l → d ≡ c + k →
+        through (λ es. d + counts es) (times none more one l s next) ≡ through (λ es. c + counts es) (times none more one n s at)
+    unfolding times counts
+    args-step zero l d q h w = absurd (omega arith)
+    args-step (suc n) l d {k} {next} q h w =
+        let g = through-got count (one s at) (field-got e q) in
+        let v : l ≡ n = omega arith in
+        rw v
+        (step (through (λ es. c + counts es)) (one s at) _ (g .1)
+        (remade (more (g .0)) (λ es. c + counts es) (λ es. d + counts es) (times none more one n s next) (λ es. omega (arith, g .2, w))))
 
 module _ (t : Tables) (loops left : ℕ) (s : List ℕ) (at : ℕ) {r : Field} where
-  -- a node, and each of its nodes, takes a byte at least
-  pub node-fits : fieldSays r ≡ through count (node t loops (applied t loops left) s at) → {k next : ℕ} → r ≡ field.Is k next → (1 ≤ k) × (at + k ≤ next) × (next ≤ length s)
+  -- each node takes a byte at least
+  pub node-fits : fieldSays r ≡ through count (node t loops (applied t loops left) s at) → {k next : ℕ} → r ≡ field.Is k next → (at + k ≤ next) × (next ≤ length s)
   node-fits e q =
       let g = through-got count (node t loops (applied t loops left) s at) (field-got e q) in
       let v = held-got (Counted s t loops at) (nodes-held s t loops left at) (g .1) in
-      let c = count-some (g .0) in
-      (omega (arith, g .2, c), omega (arith, g .2, v .0), v .1)
+      (omega (arith, g .2, v .0), v .1)
 
   pub args-fits : (n : ℕ) → at ≤ length s → fieldSays r ≡ through counts (times none more (node t loops (applied t loops left)) n s at) → {k end : ℕ} → r ≡ field.Is k end → (at + k ≤ end) × (end ≤ length s)
   args-fits n b e q =

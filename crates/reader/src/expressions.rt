@@ -121,7 +121,7 @@ fn operator_at(s: &[u8], code: usize, at: usize, tables: &FlatTables, left: usiz
 }
 
 // A node at `at`, in which operators may nest `left` deep: its nodes and its end. It and `args` call each other. What falls: an
-// operator takes two bytes and a level of nesting from its arguments, an argument a byte at least from those that remain.
+// operator takes two bytes and a level of nesting from its arguments; an argument begins no earlier than the first of them.
 fn node(s: &[u8], at: usize, tables: &FlatTables, loops: usize, left: usize) -> Field
     ensures { λ r. ⌜ fieldSays r ≡ through count (nodeOf (tablesIn (now (tables .entry))) loops (applied (tablesIn (now (tables .entry))) loops left) (now (s .entry)) at) ⌝ }
 {
@@ -142,33 +142,33 @@ fn node(s: &[u8], at: usize, tables: &FlatTables, loops: usize, left: usize) -> 
     }
 }
 
-// The n arguments that remain: the nodes of all, and their end. The last needs no further call.
+// The n arguments that remain: the nodes of all, and their end. A loop reads them, so calls nest as deep as operators do.
 fn args(s: &[u8], at: usize, tables: &FlatTables, loops: usize, left: usize, n: usize) -> Field
     ensures { λ r. ⌜ fieldSays r ≡ through counts (times noArgs moreArgs (nodeOf (tablesIn (now (tables .entry))) loops (applied (tablesIn (now (tables .entry))) loops left)) n (now (s .entry)) at) ⌝ }
 {
-    if n == 0 {
-        return Field::Is(0, at);
-    }
-    match node(s, at, tables, loops, left) {
-        Field::Not(number, place) => Field::Not(number, place),
-        Field::Is(nodes, next) => {
-            if n == 1 {
-                return Field::Is(nodes, next);
+    let mut place = at;
+    let mut more = n;
+    let mut nodes: usize = 0;
+    while 0 < more {
+        match node(s, place, tables, loops, left) {
+            Field::Not(number, p) => {
+                return Field::Not(number, p);
             }
-            match args(s, next, tables, loops, left, n - 1) {
-                Field::Not(number, place) => Field::Not(number, place),
-                Field::Is(more, end) => Field::Is(nodes + more, end),
+            Field::Is(k, next) => {
+                nodes += k;
+                place = next;
+                more -= 1;
             }
         }
     }
+    Field::Is(nodes, place)
 }
 
-// The expression at `at`: the number of its nodes and the place past it. It is read as a single argument, so that `node` is called
-// from one place.
+// The expression at `at`: the number of its nodes and the place past it.
 pub(crate) fn expression_past(s: &[u8], at: usize, tables: &FlatTables, loops: usize) -> Field
     ensures { λ r. ⌜ fieldSays r ≡ through count (expression (tablesIn (now (tables .entry))) loops (now (s .entry)) at) ⌝ }
 {
-    args(s, at, tables, loops, 12, 1)
+    node(s, at, tables, loops, 12)
 }
 
 // The same inside any number of loops; beyond 8 it is 12.

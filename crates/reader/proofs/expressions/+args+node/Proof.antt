@@ -1,14 +1,16 @@
 use native.Mathlib.Omega.{arith}
 use borrow.Author.Needs.{needs}
-use mathlib.Core.Path.{refl}
-use Prim.Native.Nat.{_+_, _-_, _*_}
+use mathlib.Core.Path.{_≡_, refl, _∙_}
+use Prim.Native.Nat.{_+_, _-_, _*_, _≤_}
 use lib.ListN.{length}
 use Rattle.reader.specs.Answers.{through}
-use Rattle.reader.specs.Syntax.{count}
-use Rattle.reader.specs.Grammar.{node as nodeOf}
+use Rattle.reader.specs.Field.{times}
+use Rattle.reader.specs.Syntax.{count, counts}
+use Rattle.reader.specs.Syntax.Exprs.{none as noArgs, more as moreArgs}
+use Rattle.reader.specs.Grammar.{node as nodeOf, applied}
+use Rattle.reader.specs.Entries.{tablesIn}
 use Rattle.reader.proofs.Steps.{field-got, field-no, stop, refused}
-use Rattle.reader.proofs.Laws.{byte-forward as byte-fits}
-use Rattle.reader.proofs.Nodes.{args-none, args-stop, args-last, args-cut, args-all, args-fits, node-leaf, node-operator, node-fits, arity-held, applied-no, operator-no, operator-is}
+use Rattle.reader.proofs.Nodes.{args-none, args-end, args-stop, args-step, args-fits, code-fits, node-leaf, node-operator, node-fits, arity-held, applied-no, operator-no, operator-is}
 use Prim.Native.Nat.{ℕ, _<_}
 use borrow.Fn.Kinds.{In}
 use borrow.Fn.PlainCycle.{Measures, is, falls, and}
@@ -24,8 +26,8 @@ use Rattle.reader.proofs.fields.byte_at.Reads as byte-at-reads
 use Rattle.reader.proofs.expressions.+args+node.{statement}
 use Rattle.reader.proofs.expressions.+args+node.Tie.{close}
 
--- Bytes left, and nesting left. An operator's arguments begin two bytes on, with a level less; the arguments that remain behind
--- one begin a byte on at least; the first of them is a node that begins where they do.
+-- Bytes left, and nesting left. An operator's arguments begin two bytes on, with a level less; each of them is a node that begins
+-- no earlier than the first.
 abbrev μ-args : Measures 2 args-kinds.ps ℕ
 μ-args κs a = 2 * (length (a .0 .now) - a .1 .0 + a .1 .1 .1 .1 .0) + 1
 
@@ -44,64 +46,58 @@ node-at t = and 2 node-kinds.ps (is 2 node-kinds.ps μ-node t) node.Pre
 abbrev node-below : ℕ → In 2 node-kinds.ps
 node-below t = and 2 node-kinds.ps (falls 2 node-kinds.ps _<_ μ-node t) node.Pre
 
+abbrev args-Inv-loop : args-lts.InvT-loop
+args-Inv-loop s at tables loops left n place₀ more₀ nodes₀ place more nodes = (at + nodes ≤ place) × (through (λ es. nodes + counts es) (times noArgs moreArgs (nodeOf (tablesIn tables) loops (applied (tablesIn tables) loops left)) more s place) ≡ through counts (times noArgs moreArgs (nodeOf (tablesIn tables) loops (applied (tablesIn tables) loops left)) n s at))
+
+abbrev args-μ-loop : args-lts.MeasureT-loop
+args-μ-loop s at tables loops left n place₀ more₀ nodes₀ place more nodes = more
+
 abbrev args-claims : ℕ → args-lts.Claims
-args-claims t = (node-below t, node.Post, args-below t, args.Post)
+args-claims t = (node-below t, node.Post)
 
 abbrev node-claims : ℕ → node-lts.Claims
 node-claims t = (byte-at-reads.Asked, byte-at-reads.Learnt, leaf-end-reads.Asked, leaf-end-reads.Learnt, operator-at-reads.Asked, operator-at-reads.Learnt, args-below t, args.Post)
 
 module _ (t : ℕ) where
-  args-returns : args-lts.Need-returns (args-claims t) (args-at t) args.Post
-  args-returns c =
-      let h = c .if1 .taken in args-none _ _ _ _ (omega arith)
+  args-loop-holds : args-lts.Need-loop-holds (args-claims t) (args-at t) args.Post args-Inv-loop args-μ-loop
+  args-loop-holds c =
+      (omega arith, args-none _ _ (omega arith))
 
-  args-node-requires : args-lts.Need-node-requires (args-claims t) (args-at t) args.Post
+  args-node-requires : args-lts.Need-node-requires (args-claims t) (args-at t) args.Post args-Inv-loop args-μ-loop
   args-node-requires c κs =
-      omega arith
+      omega (arith, c .before .loop .inv .0)
 
-  args-enum-known-number : args-lts.Need-enum-known-number (args-claims t) (args-at t) args.Post
+  args-enum-known-number : args-lts.Need-enum-known-number (args-claims t) (args-at t) args.Post args-Inv-loop args-μ-loop
   args-enum-known-number c =
       search needs
 
-  args-enum-known-nodes : args-lts.Need-enum-known-nodes (args-claims t) (args-at t) args.Post
-  args-enum-known-nodes c =
+  args-returns : args-lts.Need-returns (args-claims t) (args-at t) args.Post args-Inv-loop args-μ-loop
+  args-returns c =
+      let h = c .before .before .before .before .loop-test .taken in args-stop _ _ _ _ (c .before .before .before .node .ensures) _ (omega arith) (c .before .number .given .1) ∙ c .before .before .before .before .before .loop .inv .1
+
+  args-enum-known-k : args-lts.Need-enum-known-k (args-claims t) (args-at t) args.Post args-Inv-loop args-μ-loop
+  args-enum-known-k c =
       search needs
 
-  args-returns-2 : args-lts.Need-returns-2 (args-claims t) (args-at t) args.Post
+  args-add-nodes : args-lts.Need-add-nodes (args-claims t) (args-at t) args.Post args-Inv-loop args-μ-loop
+  args-add-nodes c =
+      let v = node-fits _ _ _ _ _ (c .before .before .before .node .ensures) (c .before .k .given .1) in omega (arith, v .0, v .1, c .before .before .before .before .before .loop .inv .0)
+
+  args-sub-more : args-lts.Need-sub-more (args-claims t) (args-at t) args.Post args-Inv-loop args-μ-loop
+  args-sub-more c =
+      omega arith
+
+  args-loop-less : args-lts.Need-loop-less (args-claims t) (args-at t) args.Post args-Inv-loop args-μ-loop
+  args-loop-less c =
+      omega arith
+
+  args-loop-again : args-lts.Need-loop-again (args-claims t) (args-at t) args.Post args-Inv-loop args-μ-loop
+  args-loop-again c =
+      let h = c .before .before .before .before .loop-test .taken in let v = node-fits _ _ _ _ _ (c .before .before .before .node .ensures) (c .before .k .given .1) in (omega (arith, v .0, c .before .before .before .before .before .loop .inv .0), args-step _ _ _ _ (c .before .before .before .node .ensures) _ _ _ (c .before .k .given .1) (omega arith) (omega arith) ∙ c .before .before .before .before .before .loop .inv .1)
+
+  args-returns-2 : args-lts.Need-returns-2 (args-claims t) (args-at t) args.Post args-Inv-loop args-μ-loop
   args-returns-2 c =
-      let h = c .if2 .taken in args-last _ _ _ (c .before .before .before .before .node .ensures) _ (omega arith) (c .before .before .nodes .given .1)
-
-  args-sub-args : args-lts.Need-sub-args (args-claims t) (args-at t) args.Post
-  args-sub-args c =
-      let h = c .before .before .before .before .before .if1 .left in omega arith
-
-  args-args-requires : args-lts.Need-args-requires (args-claims t) (args-at t) args.Post
-  args-args-requires c κs =
-      let h = c .before .before .before .before .before .if1 .left in let v = node-fits _ _ _ _ _ (c .before .before .before .before .node .ensures) (c .before .before .nodes .given .1) in omega (arith, v .0, v .1, v .2)
-
-  args-enum-known-number-2 : args-lts.Need-enum-known-number-2 (args-claims t) (args-at t) args.Post
-  args-enum-known-number-2 c =
-      search needs
-
-  args-enum-known-more : args-lts.Need-enum-known-more (args-claims t) (args-at t) args.Post
-  args-enum-known-more c =
-      search needs
-
-  args-add-t22 : args-lts.Need-add-t22 (args-claims t) (args-at t) args.Post
-  args-add-t22 c =
-      let v = node-fits _ _ _ _ _ (c .before .before .before .before .before .before .before .before .node .ensures) (c .before .before .before .before .before .before .nodes .given .1) in let w = args-fits _ _ _ _ _ _ (v .2) (c .before .before .before .args2 .ensures) (c .before .more .given .1) in omega (arith, v .1, w .0, w .1)
-
-  args-returns-3 : args-lts.Need-returns-3 (args-claims t) (args-at t) args.Post
-  args-returns-3 c =
-      let h = c .before .before .before .before .if1 .left in args-stop _ _ _ (c .before .before .before .node .ensures) _ (omega arith) (c .before .number .given .1)
-
-  args-returns-4 : args-lts.Need-returns-4 (args-claims t) (args-at t) args.Post
-  args-returns-4 c =
-      let h = c .before .before .before .before .before .before .before .before .before .if1 .left in args-cut _ _ _ (c .before .before .before .before .before .before .before .before .node .ensures) (c .before .before .before .before .before .before .nodes .given .1) (c .before .before .before .args2 .ensures) _ (omega arith) (c .before .number2 .given .1)
-
-  args-returns-5 : args-lts.Need-returns-5 (args-claims t) (args-at t) args.Post
-  args-returns-5 c =
-      let h = c .before .before .before .before .before .before .before .before .before .if1 .left in args-all _ _ _ (c .before .before .before .before .before .before .before .before .node .ensures) (c .before .before .before .before .before .before .nodes .given .1) (c .before .before .before .args2 .ensures) _ (omega arith) (c .before .more .given .1) (omega arith)
+      let h = c .loop-test .left in args-end _ _ _ _ _ (omega arith) ∙ c .before .loop .inv .1
 
   node-byte-at-requires : node-lts.Need-byte-at-requires (node-claims t) (node-at t) node.Post
   node-byte-at-requires c κs =
@@ -141,7 +137,7 @@ module _ (t : ℕ) where
 
   node-args-requires : node-lts.Need-args-requires (node-claims t) (node-at t) node.Post
   node-args-requires c κs =
-      let v = arity-held _ _ _ _ _ (field-got (c .before .before .before .operator-at .ensures) (c .before .n .given .1)) in let b = byte-fits _ _ (field-got (c .before .before .before .before .before .before .before .before .byte-at .ensures) (c .before .before .before .before .before .before .code .given .1)) in omega (arith, v .0, v .1, v .2, b .0)
+      let v = arity-held _ _ _ _ _ (field-got (c .before .before .before .operator-at .ensures) (c .before .n .given .1)) in let b = code-fits _ _ (field-got (c .before .before .before .before .before .before .before .before .byte-at .ensures) (c .before .before .before .before .before .before .code .given .1)) in omega (arith, v .0, v .1, v .2, b)
 
   node-enum-known-number-3 : node-lts.Need-enum-known-number-3 (node-claims t) (node-at t) node.Post
   node-enum-known-number-3 c =
@@ -173,4 +169,4 @@ module _ (t : ℕ) where
       node-operator _ _ _ _ (field-got (c .before .before .before .before .before .before .before .before .before .before .before .before .byte-at .ensures) (c .before .before .before .before .before .before .before .before .before .before .code .given .1)) _ (c .before .before .before .before .before .before .before .before .if1 .left) (operator-is _ _ _ _ _ _ (field-got (c .before .before .before .before .before .before .before .operator-at .ensures) (c .before .before .before .before .before .n .given .1)) (c .before .before .before .args2 .result) (c .before .before .before .args2 .ensures) (c .before .nodes .given .1) (omega arith))
 
 pub +args+node-spec : {M : Type 1} → statement M
-+args+node-spec = close μ-args μ-node (λ t. args-lts.spec (args-claims t) (args-at t) args.Post (args-returns t) (args-node-requires t) (args-enum-known-number t) (args-enum-known-nodes t) (args-returns-2 t) (args-sub-args t) (args-args-requires t) (args-enum-known-number-2 t) (args-enum-known-more t) (args-add-t22 t) (args-returns-3 t) (args-returns-4 t) (args-returns-5 t)) λ t. node-lts.spec (node-claims t) (node-at t) node.Post (node-byte-at-requires t) (node-enum-known-number t) (node-enum-known-code t) (node-leaf-end-requires t) (node-returns t) (node-operator-at-requires t) (node-enum-known-number-2 t) (node-enum-known-n t) (node-sub-args t) (node-args-requires t) (node-enum-known-number-3 t) (node-enum-known-nodes t) (node-add-t26 t) (node-returns-2 t) (node-returns-3 t) (node-returns-4 t) (node-returns-5 t)
++args+node-spec = close μ-args μ-node (λ t. args-lts.spec (args-claims t) (args-at t) args.Post args-Inv-loop args-μ-loop (args-loop-holds t) (args-node-requires t) (args-enum-known-number t) (args-returns t) (args-enum-known-k t) (args-add-nodes t) (args-sub-more t) (args-loop-less t) (args-loop-again t) (args-returns-2 t)) λ t. node-lts.spec (node-claims t) (node-at t) node.Post (node-byte-at-requires t) (node-enum-known-number t) (node-enum-known-code t) (node-leaf-end-requires t) (node-returns t) (node-operator-at-requires t) (node-enum-known-number-2 t) (node-enum-known-n t) (node-sub-args t) (node-args-requires t) (node-enum-known-number-3 t) (node-enum-known-nodes t) (node-add-t26 t) (node-returns-2 t) (node-returns-3 t) (node-returns-4 t) (node-returns-5 t)
