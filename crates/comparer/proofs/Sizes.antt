@@ -18,7 +18,7 @@ use Rattle.unroller.proofs.Parts.{both, within-low, within-high, every-at, arra
 use Rattle.unroller.proofs.Stands.{bases-length, bases-first, bases-step, bases-last, bases-sorted}
 use Rattle.comparer.specs.Match.{compared}
 use Rattle.comparer.specs.Work.{Table}
-use Rattle.comparer.specs.Comparing.{record-at, comparedAt, factorOf, sizeAt, Sums}
+use Rattle.comparer.specs.Comparing.{record-at, comparedAt, extentOrOne, sizeAt, Sums}
 
 -- ---- fits
 module _ (from size room : ℕ) where
@@ -51,23 +51,23 @@ module _ (list : List ℕ) (mask a : ℕ) where
         go true = refl
         go false = refl
 
--- ---- factor and size_of
+-- ---- extent-or-one and size_of
 module _ (used : Bool) (x : ℕ) where
-  pub factor-free : used ≡ false → 1 ≡ factorOf used x
-  unfolding factorOf
-  factor-free e = rw e
+  pub extent-or-one-free : used ≡ false → 1 ≡ extentOrOne used x
+  unfolding extentOrOne
+  extent-or-one-free e = rw e
 
-  pub factor-big : used ≡ true → 1024 < x → 0 ≡ factorOf used x
-  unfolding factorOf
-  factor-big e h = rw (e, lt-leb x 1024 h)
+  pub extent-or-one-big : used ≡ true → 1024 < x → 0 ≡ extentOrOne used x
+  unfolding extentOrOne
+  extent-or-one-big e h = rw (e, lt-leb x 1024 h)
 
-  pub factor-used : used ≡ true → x ≤ 1024 → (n : ℕ) → n ≡ x → n ≡ factorOf used x
-  unfolding factorOf
-  factor-used e h n p = rw (e, le-leb x 1024 h) p
+  pub extent-or-one-used : used ≡ true → x ≤ 1024 → (n : ℕ) → n ≡ x → n ≡ extentOrOne used x
+  unfolding extentOrOne
+  extent-or-one-used e h n p = rw (e, le-leb x 1024 h) p
 
-pub size-is : (list : List ℕ) (a x y z : ℕ) → x ≡ factorOf true (getD list (record-at a + 2) 0)
-    → y ≡ factorOf (ltb 1 (getD list (record-at a + 1) 0)) (getD list (record-at a + 3) 0)
-    → z ≡ factorOf (ltb 2 (getD list (record-at a + 1) 0)) (getD list (record-at a + 4) 0) → x * y * z ≡ sizeAt list a
+pub size-is : (list : List ℕ) (a x y z : ℕ) → x ≡ extentOrOne true (getD list (record-at a + 2) 0)
+    → y ≡ extentOrOne (ltb 1 (getD list (record-at a + 1) 0)) (getD list (record-at a + 3) 0)
+    → z ≡ extentOrOne (ltb 2 (getD list (record-at a + 1) 0)) (getD list (record-at a + 4) 0) → x * y * z ≡ sizeAt list a
 unfolding sizeAt
 size-is list a x y z p q r = rw (p, q, r)
 
@@ -127,29 +127,29 @@ module _ (list : List ℕ) (t : Tables) (H : HeaderAt list t) (P : TablesParts t
     unfolding comparedAt
     compared-is mask = rw (H .array a h .role)
 
--- an allowed extent is its own factor
-factor-own : (x : ℕ) → within 1 1024 x ≡ true → factorOf true x ≡ x
-factor-own x e = sym (factor-used true x refl (within-high 1 1024 x e) x refl)
+-- an allowed extent is its own extent-or-one
+extent-or-one-own : (x : ℕ) → within 1 1024 x ≡ true → extentOrOne true x ≡ x
+extent-or-one-own x e = sym (extent-or-one-used true x refl (within-high 1 1024 x e) x refl)
 
 -- the product of an array's words
 product : (ws : List ℕ) (d : ℕ) → ℕ
-product ws d = factorOf true (getD ws 0 0) * factorOf (ltb 1 d) (getD ws 1 0) * factorOf (ltb 2 d) (getD ws 2 0)
+product ws d = extentOrOne true (getD ws 0 0) * extentOrOne (ltb 1 d) (getD ws 1 0) * extentOrOne (ltb 2 d) (getD ws 2 0)
 
 product-cells : (es : List ℕ) → within 1 3 (length es) ≡ true → every (within 1 1024) es ≡ true → product es (length es) ≡ cells es
 unfolding product
 product-cells [] n e = absurd (omega (arith, within-low 1 3 0 n))
 product-cells (x ∷ []) n e =
     let p = both (within 1 1024 x) true e in
-    rw (factor-own x (p .0), sym (factor-free false 0 refl)) (omega arith)
+    rw (extent-or-one-own x (p .0), sym (extent-or-one-free false 0 refl)) (omega arith)
 product-cells (x ∷ y ∷ []) n e =
     let p = both (within 1 1024 x) (within 1 1024 y && true) e in
     let q = both (within 1 1024 y) true (p .1) in
-    rw (factor-own x (p .0), factor-own y (q .0), sym (factor-free false 0 refl)) (mul-one (x * y) ∙ ap (λ (k : ℕ). x * k) (sym (mul-one y)))
+    rw (extent-or-one-own x (p .0), extent-or-one-own y (q .0), sym (extent-or-one-free false 0 refl)) (mul-one (x * y) ∙ ap (λ (k : ℕ). x * k) (sym (mul-one y)))
 product-cells (x ∷ y ∷ z ∷ []) n e =
     let p = both (within 1 1024 x) (within 1 1024 y && (within 1 1024 z && true)) e in
     let q = both (within 1 1024 y) (within 1 1024 z && true) (p .1) in
     let r = both (within 1 1024 z) true (q .1) in
-    rw (factor-own x (p .0), factor-own y (q .0), factor-own z (r .0)) (mul-assoc x y z ∙ ap (λ (k : ℕ). x * (y * k)) (sym (mul-one z)))
+    rw (extent-or-one-own x (p .0), extent-or-one-own y (q .0), extent-or-one-own z (r .0)) (mul-assoc x y z ∙ ap (λ (k : ℕ). x * (y * k)) (sym (mul-one z)))
 product-cells (x ∷ y ∷ z ∷ w ∷ es) n e = absurd (omega (arith, within-high 1 3 (length (x ∷ y ∷ z ∷ w ∷ es)) n))
 
 module _ (list : List ℕ) (t : Tables) (H : HeaderAt list t) (P : TablesParts t) where

@@ -29,15 +29,15 @@ unfoldable pub comparedAt : List ℕ → ℕ → ℕ → Bool
 comparedAt list mask a = (eqb (getD list (record-at a) 0) 1 || eqb (getD list (record-at a) 0) 2) && bit mask a
 
 -- a factor of an array's size: an extent that is used, or 1
-unfoldable pub factorOf : Bool → ℕ → ℕ
-factorOf used x = cond used (cond (leb x 1024) x 0) 1
+unfoldable pub extentOrOne : Bool → ℕ → ℕ
+extentOrOne used x = cond used (cond (leb x 1024) x 0) 1
 
 -- the size of array a, by its words
 unfoldable pub sizeAt : List ℕ → ℕ → ℕ
 sizeAt list a =
-    factorOf true (getD list (record-at a + 2) 0)
-    * factorOf (ltb 1 (getD list (record-at a + 1) 0)) (getD list (record-at a + 3) 0)
-    * factorOf (ltb 2 (getD list (record-at a + 1) 0)) (getD list (record-at a + 4) 0)
+    extentOrOne true (getD list (record-at a + 2) 0)
+    * extentOrOne (ltb 1 (getD list (record-at a + 1) 0)) (getD list (record-at a + 3) 0)
+    * extentOrOne (ltb 2 (getD list (record-at a + 1) 0)) (getD list (record-at a + 4) 0)
 
 -- the cells before each array; behind the last one, of all
 pub record Sums (list table : List ℕ) : Type 0 where

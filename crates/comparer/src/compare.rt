@@ -13,7 +13,7 @@ ghost use Prim.Native.Nat.{_+_, _*_, _≤_, _<_};
 ghost use lib.ListN.{length};
 ghost use lib.Dec.{leb};
 ghost use Rattle.terms.specs.Stored.{Starts};
-ghost use Rattle.comparer.specs.Comparing.{comparedAt, factorOf, sizeAt, Sums, Agrees, FirstCell, FirstArray};
+ghost use Rattle.comparer.specs.Comparing.{comparedAt, extentOrOne, sizeAt, Sums, Agrees, FirstCell, FirstArray};
 ghost use Rattle.comparer.specs.Matching.{Matches};
 ghost use Rattle.model.specs.Memory.{headerWords};
 
@@ -34,8 +34,8 @@ fn is_compared(list: &[u32], mask: u16, array: usize) -> bool
 }
 
 // What a word of a header adds to an array's size. No allowed extent is above 1,024, so products stay small.
-fn factor(used: bool, extent: u32) -> usize
-    ensures { λ r. ⌜ (r ≡ factorOf used extent) × (r ≤ 1024) ⌝ }
+fn extent_or_one(used: bool, extent: u32) -> usize
+    ensures { λ r. ⌜ (r ≡ extentOrOne used extent) × (r ≤ 1024) ⌝ }
 {
     if !used {
         return 1;
@@ -52,9 +52,9 @@ fn size_of(list: &[u32], array: usize) -> usize
 {
     let at = 18 + 5 * array;
     let dimensions = list[at + 1];
-    let x = factor(true, list[at + 2]);
-    let y = factor(1 < dimensions, list[at + 3]);
-    let z = factor(2 < dimensions, list[at + 4]);
+    let x = extent_or_one(true, list[at + 2]);
+    let y = extent_or_one(1 < dimensions, list[at + 3]);
+    let z = extent_or_one(2 < dimensions, list[at + 4]);
     x * y * z
 }
 

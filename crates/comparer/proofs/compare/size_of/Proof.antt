@@ -20,50 +20,50 @@ mul-dimensions c = search needs
 shared-slice-read-dimensions : tie.Need-shared-slice-read-dimensions
 shared-slice-read-dimensions c = search needs
 
-add-factor : tie.Need-add-factor
-add-factor c = search needs
+add-extent-or-one : tie.Need-add-extent-or-one
+add-extent-or-one c = search needs
 
-mul-factor : tie.Need-mul-factor
-mul-factor c = search needs
+mul-extent-or-one : tie.Need-mul-extent-or-one
+mul-extent-or-one c = search needs
 
-shared-slice-read-factor : tie.Need-shared-slice-read-factor
-shared-slice-read-factor c = search needs
+shared-slice-read-extent-or-one : tie.Need-shared-slice-read-extent-or-one
+shared-slice-read-extent-or-one c = search needs
 
-factor-requires : tie.Need-factor-requires
-factor-requires c κs = search needs
+extent-or-one-requires : tie.Need-extent-or-one-requires
+extent-or-one-requires c κs = search needs
 
-add-factor-2 : tie.Need-add-factor-2
-add-factor-2 c = search needs
+add-extent-or-one-2 : tie.Need-add-extent-or-one-2
+add-extent-or-one-2 c = search needs
 
-mul-factor-2 : tie.Need-mul-factor-2
-mul-factor-2 c = search needs
+mul-extent-or-one-2 : tie.Need-mul-extent-or-one-2
+mul-extent-or-one-2 c = search needs
 
-shared-slice-read-factor-2 : tie.Need-shared-slice-read-factor-2
-shared-slice-read-factor-2 c = search needs
+shared-slice-read-extent-or-one-2 : tie.Need-shared-slice-read-extent-or-one-2
+shared-slice-read-extent-or-one-2 c = search needs
 
-factor-requires-2 : tie.Need-factor-requires-2
-factor-requires-2 c κs = search needs
+extent-or-one-requires-2 : tie.Need-extent-or-one-requires-2
+extent-or-one-requires-2 c κs = search needs
 
-add-factor-3 : tie.Need-add-factor-3
-add-factor-3 c = search needs
+add-extent-or-one-3 : tie.Need-add-extent-or-one-3
+add-extent-or-one-3 c = search needs
 
-mul-factor-3 : tie.Need-mul-factor-3
-mul-factor-3 c = search needs
+mul-extent-or-one-3 : tie.Need-mul-extent-or-one-3
+mul-extent-or-one-3 c = search needs
 
-shared-slice-read-factor-3 : tie.Need-shared-slice-read-factor-3
-shared-slice-read-factor-3 c = search needs
+shared-slice-read-extent-or-one-3 : tie.Need-shared-slice-read-extent-or-one-3
+shared-slice-read-extent-or-one-3 c = search needs
 
-factor-requires-3 : tie.Need-factor-requires-3
-factor-requires-3 c κs = search needs
+extent-or-one-requires-3 : tie.Need-extent-or-one-requires-3
+extent-or-one-requires-3 c κs = search needs
 
 mul-result : tie.Need-mul-result
-mul-result c = omega (arith, two-fit _ _ (c .before .before .before .before .factor .ensures .1) (c .before .before .factor2 .ensures .1))
+mul-result c = omega (arith, two-fit _ _ (c .before .before .before .before .extent-or-one .ensures .1) (c .before .before .extent-or-one2 .ensures .1))
 
 mul-result-2 : tie.Need-mul-result-2
-mul-result-2 c = omega (arith, three-fit _ _ _ (c .before .before .before .before .factor .ensures .1) (c .before .before .factor2 .ensures .1) (c .factor3 .ensures .1))
+mul-result-2 c = omega (arith, three-fit _ _ _ (c .before .before .before .before .extent-or-one .ensures .1) (c .before .before .extent-or-one2 .ensures .1) (c .extent-or-one3 .ensures .1))
 
 returns : tie.Need-returns
-returns c = (size-is _ _ _ _ _ (c .before .before .before .before .factor .ensures .0) (c .before .before .factor2 .ensures .0) (c .factor3 .ensures .0), three-fit _ _ _ (c .before .before .before .before .factor .ensures .1) (c .before .before .factor2 .ensures .1) (c .factor3 .ensures .1))
+returns c = (size-is _ _ _ _ _ (c .before .before .before .before .extent-or-one .ensures .0) (c .before .before .extent-or-one2 .ensures .0) (c .extent-or-one3 .ensures .0), three-fit _ _ _ (c .before .before .before .before .extent-or-one .ensures .1) (c .before .before .extent-or-one2 .ensures .1) (c .extent-or-one3 .ensures .1))
 
 pub size-of-spec : {M : Type 1} → statement M
 size-of-spec =
@@ -74,18 +74,18 @@ size-of-spec =
     add-dimensions
     mul-dimensions
     shared-slice-read-dimensions
-    add-factor
-    mul-factor
-    shared-slice-read-factor
-    factor-requires
-    add-factor-2
-    mul-factor-2
-    shared-slice-read-factor-2
-    factor-requires-2
-    add-factor-3
-    mul-factor-3
-    shared-slice-read-factor-3
-    factor-requires-3
+    add-extent-or-one
+    mul-extent-or-one
+    shared-slice-read-extent-or-one
+    extent-or-one-requires
+    add-extent-or-one-2
+    mul-extent-or-one-2
+    shared-slice-read-extent-or-one-2
+    extent-or-one-requires-2
+    add-extent-or-one-3
+    mul-extent-or-one-3
+    shared-slice-read-extent-or-one-3
+    extent-or-one-requires-3
     mul-result
     mul-result-2
     returns)
