@@ -1,6 +1,4 @@
 // Reads a stream of framed pairs (separate/README.md, "Streams") from standard input and prints the line of each.
-ghost use Prim.Native.Nat.{_≤_};
-use model::byte::wide;
 use model::sizes::CELL_WORDS;
 use model::sizes::LIST_WORDS;
 use model::sizes::TERM_WORDS;
@@ -56,7 +54,11 @@ fn length() -> usize {
     if io::read_full(0, &mut head) < 4 {
         return 4294967296;
     }
-    wide(head[0]) + 256 * (wide(head[1]) + 256 * (wide(head[2]) + 256 * wide(head[3])))
+    quad(head[0], head[1], head[2], head[3])
+}
+
+fn quad(a: u8, b: u8, c: u8, d: u8) -> usize {
+    a as usize + 256 * (b as usize + 256 * (c as usize + 256 * (d as usize)))
 }
 
 fn print(bytes: &[u8], n: usize) {

@@ -45,13 +45,13 @@ bytes-signeds s (suc loops) (suc n) at v h l f =
         let i : at + suc k ≡ at + 1 + k = omega arith in
         ap (λ (x : ℕ). x % 256) (shr-shr v 8 (8 * k) ∙ ap (λ (x : ℕ). v / 2 ^ x) e) ∙ f (suc k) (omega arith) ∙ ap (λ (i : ℕ). getD s i 0) i
 
-pub coefficients-are : (s : List ℕ) (at loops w : ℕ) → loops ≤ 8 → Before s (at + loops) w →
-    bytesOf 8 (w / 2 ^ (32 - 4 * loops) / 2 ^ (32 - 4 * loops)) ≡ padded 8 (pos 0) (signeds loops s at)
-coefficients-are s at loops w h b =
-    let e : 32 - 4 * loops + (32 - 4 * loops) ≡ 8 * (8 - loops) = omega arith in
-    let v : w / 2 ^ (32 - 4 * loops) / 2 ^ (32 - 4 * loops) ≡ w / 2 ^ (8 * (8 - loops)) = shr-shr w (32 - 4 * loops) (32 - 4 * loops) ∙ ap (λ (x : ℕ). w / 2 ^ x) e in
+pub coefficients-are : (s : List ℕ) (at loops w half : ℕ) (l : List ℤ) → l ≡ bytesOf 8 (w / 2 ^ half / 2 ^ half) → half ≡ 32 - 4 * loops → loops ≤ 8 → Before s (at + loops) w
+    → l ≡ padded 8 (pos 0) (signeds loops s at)
+coefficients-are s at loops w half l q d h b =
+    let e : half + half ≡ 8 * (8 - loops) = omega arith in
+    let v : w / 2 ^ half / 2 ^ half ≡ w / 2 ^ (8 * (8 - loops)) = shr-shr w half half ∙ ap (λ (x : ℕ). w / 2 ^ x) e in
     let m : 64 ≡ 8 * loops + 8 * (8 - loops) = omega arith in
-    ap (bytesOf 8) v ∙ bytes-signeds s loops 8 at (w / 2 ^ (8 * (8 - loops))) h (shr-lt (8 * loops) (8 * (8 - loops)) (subst (λ (x : ℕ). w < 2 ^ x) m (b .eight))) byte
+    q ∙ ap (bytesOf 8) v ∙ bytes-signeds s loops 8 at (w / 2 ^ (8 * (8 - loops))) h (shr-lt (8 * loops) (8 * (8 - loops)) (subst (λ (x : ℕ). w < 2 ^ x) m (b .eight))) byte
   where
     byte : (k : ℕ) → k < loops → w / 2 ^ (8 * (8 - loops)) / 2 ^ (8 * k) % 256 ≡ getD s (at + k) 0
     byte k g =

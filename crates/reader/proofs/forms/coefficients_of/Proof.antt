@@ -1,4 +1,4 @@
-use mathlib.Core.Path.{_∙_}
+use native.Mathlib.Omega.{arith}
 use Rattle.reader.proofs.Words.{coefficients-are}
 use borrow.Author.Needs.{needs}
 use Rattle.reader.proofs.forms.coefficients_of.Statement.{statement}
@@ -26,7 +26,7 @@ bytes-of-requires : tie.Need-bytes-of-requires
 bytes-of-requires c κs = search needs
 
 returns : tie.Need-returns
-returns c = c .bytes-of .ensures ∙ coefficients-are _ _ _ _ (c .before .before .before .pre .0) (c .before .eight-before .ensures)
+returns c = coefficients-are _ _ _ _ _ _ (c .bytes-of .ensures) (omega arith) (c .before .before .before .pre .0) (c .before .eight-before .ensures)
 
 pub coefficients-of-spec : {M : Type 1} → statement M
 coefficients-of-spec =

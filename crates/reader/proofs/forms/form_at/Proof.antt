@@ -15,7 +15,7 @@ no-form-requires : tie.Need-no-form-requires
 no-form-requires c κs = search needs
 
 returns : tie.Need-returns
-returns c = let e = c .no-form .ensures in form-refused _ _ (step-many _ _ _ (c .before .if1 .taken)) (e .0) (e .1) (e .2)
+returns c = let e = c .no-form .ensures in form-refused _ _ (step-many _ _ _ (omega (arith, c .before .if1 .taken))) (e .0) (e .1) (e .2)
 
 left-at-requires : tie.Need-left-at-requires
 left-at-requires c κs = search needs
@@ -60,7 +60,7 @@ returns-3 : tie.Need-returns-3
 returns-3 c =
     let a = c .before .before .before .before .before .before .before .before .before .args in
     let h : a .at + 2 + a .loops ≤ length (a .s .now) = omega (arith, c .before .before .before .before .before .before .left-at .ensures, c .before .before .before .before .before .if2 .left) in
-    form-given _ _ (step-few _ _ _ (c .before .before .before .before .before .before .before .if1 .left) (form-all _ _ _ h)) (length-signeds (a .loops) (a .s .now) (a .at + 2)) refl (toZ-ofZ (sfits-of (c .before .i16-of .ok)) ∙ c .before .i16-of .ensures ∙ ap (toZ w16) (c .before .before .pair .ensures)) (c .coefficients-of .ensures)
+    form-given _ _ (step-few _ _ _ (omega (arith, c .before .before .before .before .before .before .before .if1 .left)) (form-all _ _ _ h)) (length-signeds (a .loops) (a .s .now) (a .at + 2)) refl (toZ-ofZ (sfits-of (c .before .i16-of .ok)) ∙ c .before .i16-of .ensures ∙ ap (toZ w16) (c .before .before .pair .ensures)) (c .coefficients-of .ensures)
 
 pub form-at-spec : {M : Type 1} → statement M
 form-at-spec =
