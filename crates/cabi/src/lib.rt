@@ -1,4 +1,4 @@
-// The checker for C and Rust to link (`rt staticlib cabi`, bindings/tengmua.h): a slice is a pointer and a length, a reply four
+// The checker for C and Rust to link (`rt staticlib cabi`, bindings/c/tengmua.h): a slice is a pointer and a length, a reply four
 // numbers by value. Nothing is asked of a caller beyond that its slices are memory it owns, and that none it lends to be
 // written overlaps another.
 use comparer::compare_lists;

@@ -121,14 +121,6 @@ pub every-reordered : (f : Update → Bool) {us new : List Update} → Reordered
 every-reordered f none = refl
 every-reordered f (next {u = u} p r) = pick-every f p ∙ ap (λ (b : Bool). f u && b) (every-reordered f r)
 
-pick-written : {u : Update} {us rest : List Update} → Pick u us rest → (a c : ℕ) → written us a c ≡ written (u ∷ rest) a c
-pick-written here a c = refl
-pick-written {u} (later {v = v} {rest = rest} e p) a c = ap (λ (b : Bool). writes v a c || b) (pick-written p a c) ∙ or-swap (writes v a c) (writes u a c) (written rest a c)
-
-pub written-reordered : {us new : List Update} → Reordered us new → (a c : ℕ) → written us a c ≡ written new a c
-written-reordered none a c = refl
-written-reordered (next {u = u} p r) a c = pick-written p a c ∙ ap (λ (b : Bool). writes u a c || b) (written-reordered r a c)
-
 -- question 17
 module _ (arrays : List Array) where
   module _ (us vs : List Update) where

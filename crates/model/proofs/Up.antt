@@ -1,14 +1,14 @@
 -- Signed numbers as naturals, raised by 2 ^ 32, so that `omega` reads their sums and orders: `up z` is z + 2 ^ 32 where z is not below -2 ^ 32.
 -- Assumes nothing.
-use mathlib.Core.Path.{_≡_, refl, sym, ap, _∙_, subst}
+use mathlib.Core.Path.{_≡_, refl, sym, ap, _∙_}
 use mathlib.Core.Bool.{Bool, true, false}
 use Prim.Native.Nat.{ℕ, zero, suc, _+_, _-_, _*_, _^_, _≤_, _<_}
-use native.Mathlib.Decide.{decLe, decLt}
+use native.Mathlib.Decide.{decLe}
 use native.Mathlib.Omega.{arith}
-use borrow.Author.Tests.{lt-ltb, le-ltb, le-leb, lt-leb, leb-true, leb-false, ltb-true, ltb-false}
-use lib.Dec.{leb, ltb}
+use borrow.Author.Tests.{le-leb, lt-leb}
+use lib.Dec.{leb}
 use lib.IntN.{ℤ, pos, negsuc, negℤ, _+ℤ_, natAbs, subℕ}
-use lib.Signed.{mag, ltZ, leZ}
+use lib.Signed.{leZ}
 use mir.Syntax.{Width, w16, w32}
 use mir.Val.{SFits}
 use Rattle.model.proofs.Abs.{sub-pos, sub-neg}
@@ -30,12 +30,6 @@ up-le (pos a) (negsuc b) h k = sym (lt-leb (a + 4294967296) (4294967296 - suc b)
 up-le (negsuc a) (pos b) h k = sym (le-leb (4294967296 - suc a) (b + 4294967296) (omega arith))
 up-le (negsuc a) (negsuc b) h k = same-leb b a (4294967296 - suc a) (4294967296 - suc b) (λ p. omega arith) (λ p. omega arith)
 
-pub up-lt : (a b : ℤ) → natAbs a ≤ 4294967296 → natAbs b ≤ 4294967296 → ltZ a b ≡ ltb (up a) (up b)
-up-lt (pos a) (pos b) h k = same-leb (suc a) b (suc (a + 4294967296)) (b + 4294967296) (λ p. omega arith) (λ p. omega arith)
-up-lt (pos a) (negsuc b) h k = sym (le-ltb (a + 4294967296) (4294967296 - suc b) (omega arith))
-up-lt (negsuc a) (pos b) h k = sym (lt-ltb (4294967296 - suc a) (b + 4294967296) (omega arith))
-up-lt (negsuc a) (negsuc b) h k = same-leb (suc b) a (suc (4294967296 - suc a)) (4294967296 - suc b) (λ p. omega arith) (λ p. omega arith)
-
 up-sub : (a b : ℕ) → b ≤ 4294967296 → up (subℕ a b) + b ≡ a + 4294967296
 up-sub a b h = go (decLe b a)
   where
@@ -56,9 +50,6 @@ up-add (negsuc a) (pos b) h k = omega (arith, up-sub b (suc a) (omega arith))
 up-add (negsuc a) (negsuc b) h k = omega arith
 
 -- a magnitude, from above and below, and back
-pub up-abs : (z : ℤ) (m : ℕ) → m ≤ 4294967296 → natAbs z ≤ m → (4294967296 ≤ up z + m) × (up z ≤ 4294967296 + m)
-up-abs (pos n) m h k = omega arith
-up-abs (negsuc n) m h k = omega arith
 
 pub abs-up : (z : ℤ) (m : ℕ) → m < 4294967296 → 4294967296 ≤ up z + m → up z ≤ 4294967296 + m → natAbs z ≤ m
 abs-up (pos n) m h j k = omega arith
