@@ -28,3 +28,5 @@ pub mod CheckArrays
 mod CheckTable
 mod CheckUpdates
 mod CheckWhole
+mod Alone
+pub mod Executed

@@ -39,7 +39,7 @@ use Rattle.unroller.proofs.Stands.{zero-behind}
 use Rattle.unroller.proofs.HeaderWords.{head-words}
 
 -- a program that was read, taken apart
-program-by : {P : Type 0} (s : List ℕ) {p : Program} {next : ℕ} → readProgram s ≡ got p next
+pub program-by : {P : Type 0} (s : List ℕ) {p : Program} {next : ℕ} → readProgram s ≡ got p next
     → ((t : Tables) (first : ℕ) (js : Items) (end : ℕ) → tablesStep s ≡ got t first → body t (length s) 8 0 s first ≡ got js end → p ≡ record { tables = t; items = js } → P) → P
 unfolding readProgram program tablesStep
 program-by {P} s {p} {next} e k = go (leb (length s) 16384) e k
@@ -78,7 +78,7 @@ module _ (s : List ℕ) (r : TablesRead) (are : TablesAre (tablesStep s) r) (t :
   holds : r .tables ≡ packed t
   holds = are .holds ∙ ap packedIn e
 
-  read-not : (k q : ℕ) → r .answer ≡ place.Not k q → ⊥
+  pub read-not : (k q : ℕ) → r .answer ≡ place.Not k q → ⊥
   read-not k q c =
       let g : _≡_ {A = Outcome Tables} (no k q) (got t m) = sym (ap (λ (p : Place). placed p (unpacked (r .tables))) c) ∙ says in
       let z : _≡_ {A = ℕ} 0 1 = cc in omega arith
@@ -87,10 +87,10 @@ module _ (s : List ℕ) (r : TablesRead) (are : TablesAre (tablesStep s) r) (t :
     same : _≡_ {A = Outcome Tables} (got (unpacked (r .tables)) first) (got t m)
     same = sym (ap (λ (p : Place). placed p (unpacked (r .tables))) c) ∙ says
 
-    read-tables : unpacked (r .tables) ≡ t
+    pub read-tables : unpacked (r .tables) ≡ t
     read-tables = let g = same in cc
 
-    read-first : first ≡ m
+    pub read-first : first ≡ m
     read-first = let g = same in cc
 
     -- the header of a cleared list

@@ -94,7 +94,7 @@ module _ (t : Tables) where
 
 -- ---- items, one by one
 module _ (one : ℕ → ℕ → Reader Item) (s : List ℕ) (at : ℕ) where
-  items-in : (most : ℕ) {js : Items} {next : ℕ} → items one most s at ≡ got js next → at < length s
+  pub items-in : (most : ℕ) {js : Items} {next : ℕ} → items one most s at ≡ got js next → at < length s
   unfolding items
   items-in zero e = not-got e
   items-in (suc most) e = read-by (byte s at) _ e λ code n b _. go (ltb at (length s)) refl b
@@ -103,7 +103,7 @@ module _ (one : ℕ → ℕ → Reader Item) (s : List ℕ) (at : ℕ) where
       go true h b = ltb-true at (length s) h
       go false h b = not-got (byte-not s at (ltb-false at (length s) h) ∙ b)
 
-  items-by : {P : Type 0} (most : ℕ) {js : Items} {next : ℕ} → items one most s at ≡ got js next → (getD s at 0 ≡ 0 → js ≡ end → next ≡ at + 1 → P)
+  pub items-by : {P : Type 0} (most : ℕ) {js : Items} {next : ℕ} → items one most s at ≡ got js next → (getD s at 0 ≡ 0 → js ≡ end → next ≡ at + 1 → P)
       → ((less mid : ℕ) (i : Item) (is : Items) → one (getD s at 0) at s (at + 1) ≡ got i mid → items one less s mid ≡ got is next → js ≡ item i is → P) → P
   unfolding items
   items-by zero e f g = not-got e
@@ -205,7 +205,7 @@ guarded-passes js t is d (negsuc n) e = refl
 
 -- a guard or a loop taken apart, where loops and guards may nest `less` deep inside it
 module _ (s : List ℕ) (t : Tables) (left less loops at : ℕ) (fewer : left ≡ suc less) where
-  guard-by : {P : Type 0} {i : Item} {next : ℕ} → nested t (length s) left loops 3 at s (at + 1) ≡ got i next
+  pub guard-by : {P : Type 0} {i : Item} {next : ℕ} → nested t (length s) left loops 3 at s (at + 1) ≡ got i next
       → ((g : Form) (mid : ℕ) (js : Items) → form loops s (at + 1) ≡ got g mid → body t (length s) less loops s mid ≡ got js next → i ≡ guard at g js → P) → P
   unfolding nested guardOf body
   guard-by {P} {i} {next} e k =
@@ -214,7 +214,7 @@ module _ (s : List ℕ) (t : Tables) (left less loops at : ℕ) (fewer : left �
       let y : to ≡ next = cc in
       k g mid js e1 (e3 ∙ ap (got js) y) x
 
-  loop-by : {P : Type 0} {i : Item} {next : ℕ} → nested t (length s) left loops 2 at s (at + 1) ≡ got i next
+  pub loop-by : {P : Type 0} {i : Item} {next : ℕ} → nested t (length s) left loops 2 at s (at + 1) ≡ got i next
       → ((g h : Form) (z : ℤ) (m n to : ℕ) (js : Items) → form loops s (at + 1) ≡ got g m → form loops s m ≡ got h n → step s n ≡ got z to
       → body t (length s) less (loops + 1) s to ≡ got js next → i ≡ loop at g h z js → P) → P
   unfolding nested loopOf body

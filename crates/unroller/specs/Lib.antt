@@ -12,3 +12,5 @@ pub mod Walk
 pub mod WalkItems
 pub mod UnrollAnswers
 pub mod Writes
+pub mod Executed
+pub mod Traced
