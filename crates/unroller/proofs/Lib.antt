@@ -30,3 +30,5 @@ mod CheckUpdates
 mod CheckWhole
 mod Alone
 pub mod Executed
+mod Traces
+mod LastWriters

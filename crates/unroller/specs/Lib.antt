@@ -14,3 +14,5 @@ pub mod UnrollAnswers
 pub mod Writes
 pub mod Executed
 pub mod Traced
+pub mod Origins
+pub mod OriginReply

@@ -21,7 +21,7 @@ use reader::items::items_end;
 use reader::tables::FlatTables;
 
 // A loop's start, end and step, and the place of its body; or a question's number.
-enum Range {
+pub(crate) enum Range {
     Over(i16, i16, i16, usize),
     No(u8),
 }
@@ -55,7 +55,7 @@ fn stepped(program: &[u8], at: usize, first: i64, last: i64) -> Range
 }
 
 // Start and end are both worked out before 15 is asked.
-fn range_at(program: &[u8], at: usize, loops: usize, indices: [i16; 8]) -> Range
+pub(crate) fn range_at(program: &[u8], at: usize, loops: usize, indices: [i16; 8]) -> Range
     ensures ranges { λ r. ⌜ Ranges (now (program .entry)) at loops indices r ⌝ }
     ensures moves { λ r. ⌜ Moves r ⌝ }
 {

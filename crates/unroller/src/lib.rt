@@ -4,6 +4,7 @@ mod forms;
 mod header;
 mod items;
 mod lists;
+mod origins;
 mod statement;
 mod walk;
 
@@ -11,3 +12,6 @@ pub use entry::Unrolled;
 pub use entry::unroll;
 pub use lists::Checked;
 pub use lists::check_list;
+pub use origins::Origin;
+pub use origins::Source;
+pub use origins::origin_of;

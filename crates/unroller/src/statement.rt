@@ -39,7 +39,7 @@ use reader::tables::operator_count;
 use reader::tables::role_of;
 
 // A cell number, or one made of some subscripts, and the place past them; or a question's number.
-enum Cell {
+pub(crate) enum Cell {
     Is(usize, usize),
     No(u8),
 }
@@ -107,7 +107,7 @@ fn subscript_at(program: &[u8], at: usize, loops: usize, indices: [i16; 8], exte
 }
 
 // The cell of a declared array at the subscripts that stand at `at`, last fastest.
-fn cell_at(
+pub(crate) fn cell_at(
     program: &[u8],
     at: usize,
     tables: &FlatTables,
