@@ -1,6 +1,7 @@
 // Numbers from the bytes of a record, and numbers on the line.
 ghost use Prim.Native.Nat.{_≤_};
 use model::byte::wide;
+use model::numbers::size;
 use reader::fields::Field;
 use reader::fields::Place;
 use reader::fields::Signed;
@@ -78,17 +79,6 @@ pub(crate) fn say_bool(b: bool) {
         say(1);
     } else {
         say(0);
-    }
-}
-
-// The distance of a signed number from 0.
-fn size(v: i16) -> usize
-    ensures { λ r. ⌜ r ≤ 32768 ⌝ }
-{
-    if v < 0 {
-        1 + (-1 - v) as usize
-    } else {
-        v as usize
     }
 }
 

@@ -1,3 +1,4 @@
 pub mod Abs
 pub mod Up
+mod Signs
 mod Zeros

@@ -1,6 +1,6 @@
 -- A number of 16 signed bits, read back from its bits, and its distance from 0.
 use mathlib.Core.Path.{_≡_, refl, sym, ap, _∙_}
-use Prim.Native.Nat.{ℕ, suc, _+_, _-_, _≤_, _<_}
+use Prim.Native.Nat.{ℕ, suc, _+_, _-_, _<_}
 use native.Mathlib.Omega.{arith}
 use mathlib.Core.Bool.{true, false, false≢true}
 use lib.Dec.{T}
@@ -26,12 +26,8 @@ module _ (v : ℤ) (f : SFits w16 v) where
       go (pos n) f e = (tt, record { fits = let h = f .sfits in omega arith })
       go (negsuc n) f e = absurd (false≢true (sym e))
 
-  pub pos-small : ltZ back (pos 0) ≡ false → natAbs back ≤ 32768
-  pos-small e = rw same (go v f (rw same at e))
-    where
-      go : (v : ℤ) → SFits w16 v → ltZ v (pos 0) ≡ false → natAbs v ≤ 32768
-      go (pos n) f e = let h = f .sfits in omega arith
-      go (negsuc n) f e = absurd (false≢true (sym e))
+  pub pos-size : natAbs back ≡ natAbs v
+  pos-size = ap natAbs same
 
   abbrev away : ℤ
   away = negsuc 0 -ℤ back
@@ -54,3 +50,9 @@ module _ (v : ℤ) (f : SFits w16 v) where
 
   pub away-small : ltZ back (pos 0) ≡ true → natAbs (toZ w16 (ofZ w16 away)) < 32768
   away-small e = let a = away-is e in rw (toZ-ofZ {w = w16} {z = away} (away-fits e), a .2) (a .3)
+
+  pub away-size : ltZ back (pos 0) ≡ true → 1 + natAbs (toZ w16 (ofZ w16 away)) ≡ natAbs v
+  away-size e =
+      let a = away-is e in
+      let k : 1 + (a .0) ≡ suc (a .0) = omega arith in
+      rw (toZ-ofZ {w = w16} {z = away} (away-fits e), a .2) (k ∙ ap natAbs (sym (a .1)))
