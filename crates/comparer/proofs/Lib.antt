@@ -16,6 +16,9 @@ mod Headers
 mod ListEntries
 mod Clearing
 mod ProgramEntries
+pub mod Explains
+pub mod Explanations
+mod Stretches
 mod Slots
 mod Leaves
 mod Arguments

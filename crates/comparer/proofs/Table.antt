@@ -1,4 +1,4 @@
--- The starred rows, computed; and examples that a wrong definition would fail.
+-- The starred rows and the explained ones, computed; and examples that a wrong definition would fail.
 use Prim.Native.Nat.{ℕ}
 use mathlib.Core.Path.{_≡_, refl, ap, ap₂, _∙_}
 use mathlib.Core.List.{List, [], _∷_, map}
@@ -17,13 +17,16 @@ use Rattle.reader.specs.Grammar as Grammar
 use Rattle.unroller.specs.Run as Run
 use Rattle.unroller.specs.Run.{runProgram}
 use Rattle.unroller.specs.Unroll.{unrolled}
+use Rattle.unroller.specs.Executed.{executed, executeds, execution, writesTo, endOf, originOf}
 use Rattle.terms.specs.Term.{same, sames, parts, partsOf, termCount}
 use Rattle.comparer.specs.Meaning.{valueOf, valuesOf}
 use Rattle.comparer.specs.Match.{listsReply}
 use Rattle.comparer.specs.Entry.{programsReply, inputReply, allBits}
+use Rattle.comparer.specs.Explain.{explanation}
 use Rattle.comparer.specs.Line.{lineOf}
+use Rattle.comparer.specs.ExplainLine.{explanationLine}
 use Rattle.comparer.specs.Rows.{Row, framed, starred}
-use Rattle.comparer.specs.Claims.{StarredRows}
+use Rattle.comparer.specs.Claims.{StarredRows, ExplainedRows}
 use Rattle.comparer.proofs.Input.{framed-programs}
 
 rows-programs : (any : List ℕ) → map (λ (x : Row). lineOf (programsReply allBits (x .one) (x .other any))) starred ≡ map (λ (x : Row). x .line) starred
@@ -43,6 +46,10 @@ framed-all any (x ∷ xs) e =
 
 pub starred-rows : StarredRows
 starred-rows any = framed-all any starred all-short ∙ rows-programs any
+
+pub explained-rows : ExplainedRows
+unfolding field byte u16 u32 i8 i16 times Grammar.head Grammar.arity Grammar.operators Grammar.extent Grammar.array Grammar.arrays Grammar.tables Grammar.form Grammar.subscripts Grammar.index Grammar.readOf Grammar.literalOf Grammar.constantOf Grammar.applyOf Grammar.node Grammar.applied Grammar.expression Grammar.statementOf Grammar.step Grammar.loopOf Grammar.guardOf Grammar.items Grammar.itemOf Grammar.nested Grammar.body Grammar.program Grammar.readProgram Run.worked Run.cellFrom Run.cellAt Run.tree Run.trees count counts Run.readable Run.readables Run.update Run.indices Run.rounds Run.run Run.runs runProgram unrolled same sames parts partsOf termCount valueOf valuesOf listsReply programsReply lineOf explanation originOf endOf writesTo execution executed executeds explanationLine
+explained-rows = refl
 
 -- an in array and an out array of two cells each, and an operator of two arguments
 abbrev listOf : List Update → Listed

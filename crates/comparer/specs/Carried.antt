@@ -1,23 +1,31 @@
 -- The claims, carried to what the entries answer: a call's contract is the hypothesis, and there is no other.
 use Prim.Native.Nat.{ℕ}
 use mathlib.Core.Path.{_≡_}
-use mathlib.Core.List.{List, List·Memᴰ}
+use mathlib.Core.List.{List, [], List·Memᴰ}
 use mathlib.Core.Bool.{Bool, true, false}
 use mathlib.Core.Option.{some}
 use lib.ListN.{length, take}
+use denote.Ref.{RefT, now}
 use Rattle.model.specs.Update.{Listed}
-use Rattle.model.specs.Reply.{isRefused}
+use Rattle.model.specs.Reply.{isRefused, differs}
 use Rattle.unroller.specs.Run.{ok}
 use Rattle.unroller.specs.Layout.{layout}
 use Rattle.unroller.specs.Decode.{decode}
 use Rattle.unroller.specs.Unroll.{unrolled}
+use Rattle.unroller.specs.Executed.{Origin}
+use Rattle.unroller.specs.Traced.{stretchOf, WrittenAt}
 use Rattle.comparer.specs.Entry.{entryReply, wordsReply, programsReply, allBits, leftIn, rightIn, inputReply}
+use Rattle.comparer.specs.Explain.{explanation}
 use Rattle.comparer.specs.Line.{lineOf}
 use Rattle.comparer.specs.Writing.{Holds}
 use Rattle.comparer.specs.Order.{NewOrder, reorder}
 use Rattle.comparer.specs.Rows.{Row, framed, starred}
 use Rattle.comparer.specs.Claims.{ToldOf, SameValues}
 use Rattle.comparer.specs.Answers.{replySays}
+use Rattle.comparer.specs.ExplainAnswers.{chosenSays, chosenOf, explanationSays, Part, IsPart}
+use Rattle.comparer.specs.declared.explanation.Chosen.{Chosen}
+use Rattle.comparer.specs.declared.explanation.Answer.the-variants as answer
+use Rattle.comparer.specs.declared.explanation.Explanation.{Explanation}
 use Rattle.comparer.specs.declared.line.Line.{Line}
 use Rattle.comparer.specs.declared.reply.Reply.{Reply}
 use Rattle.comparer.specs.declared.reply.Reply.the-variants.{Equal}
@@ -57,3 +65,28 @@ abbrev pub StarredAnswered : Type 0
 StarredAnswered =
     (any : List ℕ) (x : Row) → List·Memᴰ x starred → (r : Reply) (line : Line)
     → replySays r ≡ entryReply true (inputReply (framed (x .one) (x .other any))) → Holds line (lineOf (replySays r)) → take (line .len) (line .bytes) ≡ x .line
+
+-- "Written", for what `explain` answers and `stretch` makes of its two places: the part is the origin's stretch in the chosen program's
+-- bytes, and the first `count` index values are the origin's.
+pub record HandedOver (mask : ℕ) (side : Chosen) (one other : RefT (List ℕ)) (a e : ℕ) (r : Explanation) (p : RefT (List ℕ)) : Type 0 where
+  pub origin : Origin
+  pub list : Listed
+  pub differ : programsReply mask (now one) (now other) ≡ differs a e
+  pub holds : WrittenAt (chosenOf side (now one) (now other)) list a e origin
+  pub counted : r .count ≡ length (origin .values)
+  pub indices : take (r .count) (r .indices) ≡ origin .values
+  pub part : Part (chosenOf side one other) (origin .from) (origin .to) p
+  pub bytes : now p ≡ stretchOf (chosenOf side (now one) (now other)) origin
+
+abbrev pub WrittenAnswered : Type 0
+WrittenAnswered =
+    (long : Bool) (mask : ℕ) (side : Chosen) (one other : RefT (List ℕ)) (r : Explanation) (p : RefT (List ℕ)) (a e : ℕ)
+    → explanationSays r ≡ explanation long mask (chosenSays side) (now one) (now other) → IsPart (chosenOf side one other) (r .from) (r .to) p
+    → r .answer ≡ answer.Written a e → HandedOver mask side one other a e r p
+
+-- Any other answer: the part is empty.
+abbrev pub OtherAnswered : Type 0
+OtherAnswered =
+    (long : Bool) (mask : ℕ) (side : Chosen) (one other : RefT (List ℕ)) (r : Explanation) (p : RefT (List ℕ))
+    → explanationSays r ≡ explanation long mask (chosenSays side) (now one) (now other) → IsPart (chosenOf side one other) (r .from) (r .to) p
+    → ((a e : ℕ) → r .answer ≡ answer.Written a e → ⊥) → (now p ≡ []) × (r .count ≡ 0)

@@ -2,26 +2,31 @@
 -- That each entry's code meets these definitions is its contract.
 use Prim.Native.Nat.{ℕ, _≤_, _<_}
 use mathlib.Core.Path.{_≡_}
-use mathlib.Core.Logic.{_↔_}
+use mathlib.Core.Logic.{_⊎_, _↔_}
 use mathlib.Core.List.{List, map}
-use mathlib.Core.Bool.{true, false, _||_, not}
+use mathlib.Core.Bool.{Bool, true, false, _||_, not}
 use mathlib.Core.Option.{some}
 use lib.ListN.{length, getD, take}
 use Rattle.model.specs.Tables.{arrayAt, local}
 use Rattle.model.specs.Update.{Tree, Listed, written}
-use Rattle.model.specs.Reply.{Reply, equal, isRefused}
+use Rattle.model.specs.Reply.{Reply, equal, isRefused, Side, both}
 use Rattle.unroller.specs.Run.{ok}
 use Rattle.unroller.specs.Allowed.{allowed}
 use Rattle.unroller.specs.Layout.{layout}
 use Rattle.unroller.specs.Decode.{decode, accepted}
 use Rattle.unroller.specs.Unroll.{unrolled}
+use Rattle.unroller.specs.Executed.{Origin}
+use Rattle.unroller.specs.Traced.{Traced, WrittenAt}
 use Rattle.comparer.specs.Meaning.{Meaning, Content, valueOf, after, free}
 use Rattle.comparer.specs.Match.{comparedSize, listsReply}
-use Rattle.comparer.specs.Entry.{wordsReply, programsReply, allBits, leftIn, rightIn, inputReply}
+use Rattle.comparer.specs.Entry.{entryReply, wordsReply, programsReply, allBits, leftIn, rightIn, inputReply}
+use Rattle.comparer.specs.Explain as Explain
+use Rattle.comparer.specs.Explain.{Chosen, chosen, Explanation, plain, explained, explanation}
 use Rattle.comparer.specs.Line.{lineOf}
+use Rattle.comparer.specs.ExplainLine.{explanationLine}
 use Rattle.comparer.specs.Told.{Compared, Shared, Agree, Told}
 use Rattle.comparer.specs.Order.{NewOrder, reorder}
-use Rattle.comparer.specs.Rows.{Row, framed, starred}
+use Rattle.comparer.specs.Rows.{Row, framed, starred, ExplainedRow, explainedPairs}
 
 -- Demand 2 for lists: of two allowed lists, a reply that is no refusal says exactly what every content and meaning say.
 abbrev pub Demand2Lists : Type 1
@@ -122,3 +127,47 @@ FreeStandsForAll =
 -- A list beside itself is never told apart.
 abbrev pub NeverApartFromItself : Type 0
 NeverApartFromItself = (mask : ℕ) (l : Listed) (a e : ℕ) → listsReply mask l l ≡ Reply.differs a e → ⊥
+
+-- The traced run's updates are the run's: of a program that unrolls, one executed statement for each update, in order.
+abbrev pub TracedUpdates : Type 0
+TracedUpdates = (s : List ℕ) (l : Listed) → unrolled s ≡ ok l → Traced s l
+
+-- "Written": both sides differ at this element, the chosen side unrolls, and what is handed over is the element's origin there. It is
+-- that of the last update that writes the element, and its stretch is that update's statement (`WrittenAt`).
+pub record WrittenIs (mask : ℕ) (side : Chosen) (one other : List ℕ) (a e : ℕ) (x : Explanation) : Type 0 where
+  pub differ : programsReply mask one other ≡ Reply.differs a e
+  pub list : Listed
+  pub unrolls : unrolled (chosen side one other) ≡ ok list
+  pub origin : Origin
+  pub handed : x ≡ explained a e (some origin)
+  pub holds : WrittenAt (chosen side one other) list a e origin
+
+abbrev pub WrittenExplained : Type 0
+WrittenExplained =
+    (long : Bool) (mask : ℕ) (side : Chosen) (one other : List ℕ) (a e : ℕ) → explanation long mask side one other .answer ≡ Explain.written a e
+    → WrittenIs mask side one other a e (explanation long mask side one other)
+
+-- "Starting content": both sides differ at this element, and no update of the chosen side writes it.
+pub record StartingIs (mask : ℕ) (side : Chosen) (one other : List ℕ) (a e : ℕ) (x : Explanation) : Type 0 where
+  pub differ : programsReply mask one other ≡ Reply.differs a e
+  pub list : Listed
+  pub unrolls : unrolled (chosen side one other) ≡ ok list
+  pub never : written (list .updates) a e ≡ false
+  pub handed : x ≡ plain (Explain.starting a e)
+
+abbrev pub StartingExplained : Type 0
+StartingExplained =
+    (long : Bool) (mask : ℕ) (side : Chosen) (one other : List ℕ) (a e : ℕ) → explanation long mask side one other .answer ≡ Explain.starting a e
+    → StartingIs mask side one other a e (explanation long mask side one other)
+
+-- A refusal is the comparison's, or 27 where that says "equal"; it hands over nothing.
+abbrev pub RefusedExplained : Type 0
+RefusedExplained =
+    (long : Bool) (mask : ℕ) (side : Chosen) (one other : List ℕ) (s : Side) (k p : ℕ) → explanation long mask side one other .answer ≡ Explain.refused s k p
+    → (explanation long mask side one other ≡ plain (Explain.refused s k p))
+    × ((entryReply long (programsReply mask one other) ≡ Reply.refused s k p)
+    ⊎ ((n : ℕ) × (entryReply long (programsReply mask one other) ≡ equal n) × (s ≡ both) × (k ≡ 27) × (p ≡ 0)))
+
+-- Known pairs explained, each with its line as docs/FORMAT.md prints it.
+abbrev pub ExplainedRows : Type 0
+ExplainedRows = map (λ (x : ExplainedRow). explanationLine (explanation true allBits (x .side) (x .one) (x .other))) explainedPairs ≡ map (λ (x : ExplainedRow). x .line) explainedPairs

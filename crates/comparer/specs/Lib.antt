@@ -1,12 +1,15 @@
 pub mod Meaning
 pub mod Match
 pub mod Entry
+pub mod Explain
 pub mod Line
+pub mod ExplainLine
 pub mod Told
 pub mod Order
 pub mod Rows
 pub mod Claims
 pub mod Answers
+pub mod ExplainAnswers
 pub mod Matching
 pub mod Writing
 pub mod Headers

@@ -1,9 +1,10 @@
--- The ten starred rows of docs/FORMAT.md, "Known pairs".
+-- The ten starred rows of docs/FORMAT.md, "Known pairs", and some of these pairs explained.
 use Prim.Native.Nat.{ℕ, _/_, _%_}
 use mathlib.Core.List.{List, [], _∷_, _++_}
 use lib.ListN.{length, set}
 use Prim.Native.String.{String}
 use Rattle.comparer.specs.Line.{codes}
+use Rattle.comparer.specs.Explain.{Chosen, leftSide, rightSide}
 
 -- program L, which copies two elements
 abbrev pub L : List ℕ
@@ -39,3 +40,23 @@ starred =
     ∷ rowAny (set L 18 2) "refused left 16 22"
     ∷ row L (set L 28 1) "refused right 17 22"
     ∷ rowAny (set L 23 0) "refused left 13 23" ∷ []
+
+-- a pair, the side that is asked about, and the line of its explanation, with its end
+pub record ExplainedRow : Type 0 where
+  pub one : List ℕ
+  pub other : List ℕ
+  pub side : Chosen
+  pub line : List ℕ
+
+abbrev pub explains : List ℕ → List ℕ → Chosen → String → ExplainedRow
+explains l r side text = record { one = l; other = r; side = side; line = codes text ++ (0x0A ∷ []) }
+
+-- known pairs, explained
+abbrev pub explainedPairs : List ExplainedRow
+explainedPairs =
+    explains L (set (set L 29 1) 31 255) leftSide "written 1 0 22 32 0"
+    ∷ explains L (set (set L 29 1) 31 255) rightSide "written 1 0 22 32 0"
+    ∷ explains L (set L 18 0) leftSide "written 1 1 22 32 1"
+    ∷ explains L (set L 18 0) rightSide "starting 1 1"
+    ∷ explains L L leftSide "refused both 27 0"
+    ∷ explains (set L 18 2) L rightSide "refused left 16 22" ∷ []

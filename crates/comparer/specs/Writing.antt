@@ -7,15 +7,19 @@ use Rattle.unroller.specs.Layout.{padded}
 use Rattle.comparer.specs.Line.{digits}
 use Rattle.comparer.specs.declared.line.Line.{Line}
 
+-- the room for a line
+abbrev pub lineBytes : ℕ
+lineBytes = 160
+
 -- the line's bytes are these and no others
 pub record Holds (line : Line) (text : List ℕ) : Type 0 where
-  pub bytes : line .bytes ≡ padded 64 text
+  pub bytes : line .bytes ≡ padded lineBytes text
   pub len : line .len ≡ length text
-  pub room : line .len ≤ 64
+  pub room : line .len ≤ lineBytes
 
 -- what is written behind any text that leaves room for it
 unfoldable pub Adds : Line → List ℕ → Line → Type 0
-Adds line more r = (text : List ℕ) → Holds line text → length text + length more ≤ 64 → Holds r (text ++ more)
+Adds line more r = (text : List ℕ) → Holds line text → length text + length more ≤ lineBytes → Holds r (text ++ more)
 
 -- powers of ten
 abbrev pub tens : ℕ → ℕ
@@ -28,4 +32,4 @@ AddsNumber line n r = (k : ℕ) → n < tens (suc k) → Adds line (digits (suc 
 
 -- all of this text but its end
 unfoldable pub Begins : Line → List ℕ → Type 0
-Begins r whole = (text : List ℕ) × Holds r text × (length text < 64) × (text ++ (0x0A ∷ []) ≡ whole)
+Begins r whole = (text : List ℕ) × Holds r text × (length text < lineBytes) × (text ++ (0x0A ∷ []) ≡ whole)

@@ -1,6 +1,7 @@
-// Compares two update lists, or two programs: the reply of docs/FORMAT.md.
+// Compares two update lists, or two programs: the reply of docs/FORMAT.md. Explains a difference.
 mod compare;
 mod evaluate;
+mod explanation;
 mod line;
 mod lists;
 mod memory;
@@ -8,7 +9,14 @@ mod programs;
 pub mod reply;
 mod tables;
 
+pub use explanation::Answer;
+pub use explanation::Chosen;
+pub use explanation::Explanation;
+pub use explanation::explain;
+pub use explanation::stretch;
+pub use line::LINE_BYTES;
 pub use line::Line;
+pub use line::explanation_line;
 pub use line::line_of;
 pub use lists::compare_lists;
 pub use programs::compare_input;

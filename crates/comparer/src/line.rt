@@ -1,16 +1,35 @@
-// The line that the program prints.
+// The lines that the programs print: of a reply, and of an explanation.
+use crate::explanation::Answer;
+use crate::explanation::Explanation;
 use crate::reply::Reply;
 use crate::reply::Side;
+use model::numbers::least;
+use model::numbers::size;
 ghost use mathlib.Core.Path.{_≡_};
 ghost use mathlib.Core.List.{_∷_, []};
+ghost use Prim.Native.Nat.{min};
 ghost use Rattle.comparer.specs.Answers.{sideSays, replySays};
+ghost use Rattle.comparer.specs.ExplainAnswers.{explanationSays};
+ghost use Rattle.comparer.specs.ExplainLine.{signed, spacedFirst, explanationLine};
 ghost use Rattle.comparer.specs.Line.{decimal, sideText, spaced, lineOf};
 ghost use Rattle.comparer.specs.Writing.{Holds, Adds, AddsNumber, Begins};
 
-// Bytes up to `len`, zeros behind. The longest line, `differs` with two numbers of 20 digits, has 50.
+// The longest line, `written` with four numbers of 20 digits and eight of 6 characters, has 148.
+pub const LINE_BYTES: usize = 160;
+
+// Bytes up to `len`, zeros behind.
 pub struct Line {
-    pub bytes: [u8; 64],
+    pub bytes: [u8; LINE_BYTES],
     pub len: usize,
+}
+
+fn no_text() -> Line
+    ensures { λ r. ⌜ Holds r [] ⌝ }
+{
+    Line {
+        bytes: [0u8; LINE_BYTES],
+        len: 0,
+    }
 }
 
 // A full line takes no more.
@@ -19,7 +38,7 @@ fn put(line: Line, b: u8) -> Line
 {
     let mut out = line;
     let at = line.len;
-    if at < 64 {
+    if at < LINE_BYTES {
         out.bytes[at] = b;
         out.len = at + 1;
     }
@@ -69,10 +88,7 @@ fn spaced_side(line: Line, side: Side) -> Line
 fn words(reply: Reply) -> Line
     ensures { λ r. ⌜ Begins r (lineOf (replySays reply)) ⌝ }
 {
-    let empty = Line {
-        bytes: [0u8; 64],
-        len: 0,
-    };
+    let empty = no_text();
     match reply {
         Reply::Equal(n) => spaced_number(text(empty, b"equal"), n),
         Reply::Differs(a, e) => spaced_number(spaced_number(text(empty, b"differs"), a), e),
@@ -87,4 +103,56 @@ pub fn line_of(reply: Reply) -> Line
     ensures { λ r. ⌜ Holds r (lineOf (replySays reply)) ⌝ }
 {
     put(words(reply), 10)
+}
+
+fn spaced_signed(line: Line, z: i16) -> Line
+    ensures { λ r. ⌜ Adds line (spaced (signed z)) r ⌝ }
+{
+    let blank = put(line, 32);
+    if z < 0 {
+        return number(put(blank, 45), size(z));
+    }
+    number(blank, size(z))
+}
+
+// The first `count` of the eight.
+fn spaced_indices(line: Line, count: usize, indices: [i16; 8]) -> Line
+    ensures { λ r. ⌜ Adds line (spacedFirst (min count 8) indices) r ⌝ }
+{
+    let n = least(count, 8);
+    let mut out = line;
+    let mut k: usize = 0;
+    while k < n {
+        out = spaced_signed(out, indices[k]);
+        k += 1;
+    }
+    out
+}
+
+// Without its end.
+fn explanation_words(explanation: Explanation) -> Line
+    ensures { λ r. ⌜ Begins r (explanationLine (explanationSays explanation)) ⌝ }
+{
+    let answer = explanation.answer;
+    let indices = explanation.indices;
+    match answer {
+        Answer::Written(a, e) => {
+            let array = spaced_number(text(no_text(), b"written"), a);
+            let element = spaced_number(array, e);
+            let start = spaced_number(element, explanation.from);
+            let stretch = spaced_number(start, explanation.to);
+            spaced_indices(stretch, explanation.count, indices)
+        }
+        Answer::Starting(a, e) => {
+            let array = spaced_number(text(no_text(), b"starting"), a);
+            spaced_number(array, e)
+        }
+        Answer::Refused(side, k, p) => words(Reply::Refused(side, k, p)),
+    }
+}
+
+pub fn explanation_line(explanation: Explanation) -> Line
+    ensures { λ r. ⌜ Holds r (explanationLine (explanationSays explanation)) ⌝ }
+{
+    put(explanation_words(explanation), 10)
 }

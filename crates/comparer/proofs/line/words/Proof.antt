@@ -5,6 +5,9 @@ use Rattle.comparer.proofs.Writing.{equal-begins, differs-begins, refus
 use Rattle.comparer.proofs.line.words.Statement.{statement}
 use Rattle.comparer.proofs.line.words.Tie as tie
 
+no-text-requires : tie.Need-no-text-requires
+no-text-requires c = search needs
+
 enum-known-reply : tie.Need-enum-known-reply
 enum-known-reply c = search needs
 
@@ -54,18 +57,19 @@ spaced-number-requires-5 : tie.Need-spaced-number-requires-5
 spaced-number-requires-5 c κs = search needs
 
 returns : tie.Need-returns
-returns c = rw (c .before .before .before .before .reply .given .1) (equal-begins _ (record { bytes = refl; len = refl; room = omega arith }) (c .before .text .result) _ _ (c .before .text .ensures) (c .spaced-number .ensures))
+returns c = rw (c .before .before .before .before .reply .given .1) (equal-begins (c .before .before .before .before .before .before .no-text .result) (c .before .before .before .before .before .before .no-text .ensures) (c .before .text .result) _ _ (c .before .text .ensures) (c .spaced-number .ensures))
 
 returns-2 : tie.Need-returns-2
-returns-2 c = rw (c .before .before .before .before .before .reply2 .given .1) (differs-begins _ (record { bytes = refl; len = refl; room = omega arith }) (c .before .before .text2 .result) (c .before .spaced-number2 .result) _ _ _ (c .before .before .text2 .ensures) (c .before .spaced-number2 .ensures) (c .spaced-number3 .ensures))
+returns-2 c = rw (c .before .before .before .before .before .reply2 .given .1) (differs-begins (c .before .before .before .before .before .before .before .no-text .result) (c .before .before .before .before .before .before .before .no-text .ensures) (c .before .before .text2 .result) (c .before .spaced-number2 .result) _ _ _ (c .before .before .text2 .ensures) (c .before .spaced-number2 .ensures) (c .spaced-number3 .ensures))
 
 returns-3 : tie.Need-returns-3
-returns-3 c = rw (c .before .before .before .before .before .before .reply3 .given .1) (refused-begins _ (record { bytes = refl; len = refl; room = omega arith }) (c .before .before .before .text3 .result) (c .before .before .spaced-side .result) (c .before .spaced-number4 .result) _ _ _ _ (c .before .before .before .text3 .ensures) (c .before .before .spaced-side .ensures) (c .before .spaced-number4 .ensures) (c .spaced-number5 .ensures))
+returns-3 c = rw (c .before .before .before .before .before .before .reply3 .given .1) (refused-begins (c .before .before .before .before .before .before .before .before .no-text .result) (c .before .before .before .before .before .before .before .before .no-text .ensures) (c .before .before .before .text3 .result) (c .before .before .spaced-side .result) (c .before .spaced-number4 .result) _ _ _ _ (c .before .before .before .text3 .ensures) (c .before .before .spaced-side .ensures) (c .before .spaced-number4 .ensures) (c .spaced-number5 .ensures))
 
 pub words-spec : {M : Type 1} → statement M
 words-spec =
     tie.close
     (tie.spec
+    no-text-requires
     enum-known-reply
     slice-aggregate-text
     text-requires

@@ -1,0 +1,91 @@
+-- From the comparison's reply, and what is told of an element, to the explanation.
+use mathlib.Core.Path.{_≡_, refl, sym, ap, _∙_}
+use Prim.Native.Nat.{ℕ, _≤_}
+use native.Mathlib.Omega.{arith}
+use mathlib.Core.List.{List}
+use mathlib.Core.Bool.{Bool, true, false, _&&_}
+use mathlib.Core.Option.{Option, none, some}
+use lib.ListN.{length, replicate, length-replicate}
+use lib.Dec.{leb}
+use borrow.Author.Tests.{le-leb, leb-true}
+use Rattle.model.specs.Test.{if_then_else_}
+use Rattle.model.specs.Update.{Listed}
+use Rattle.model.specs.Memory.{listWords, cellWords, termWords, cleared, workLeft}
+use Rattle.model.specs.Reply.{Reply, equal, differs, refused, left, right}
+use Rattle.unroller.specs.Run.{Ran, ok, stop}
+use Rattle.unroller.specs.Unroll.{unrolled}
+use Rattle.unroller.specs.Executed.{Origin, originOf}
+use Rattle.unroller.specs.OriginReply.{Told, told, originReply, sourceSays, originSays}
+use Rattle.unroller.specs.declared.origins.Origin.{Origin as Found}
+use Rattle.unroller.proofs.Parts.{both}
+use Rattle.comparer.specs.Match.{listsReply}
+use Rattle.comparer.specs.Entry.{enoughLent, entryReply, programsReply, sideReply}
+use Rattle.comparer.specs.Explain.{Chosen, leftSide, rightSide, chosen, Answer, Explanation, explained, byReply, explanation}
+use Rattle.comparer.specs.ExplainAnswers.{answerBy, explanationBy, repliedBy, listLeft}
+
+-- a "differs" comes of two programs that unroll
+pub differs-unrolls : (mask : ℕ) (side : Chosen) (l r : List ℕ) (a e : ℕ) → programsReply mask l r ≡ differs a e → (x : Listed) × (unrolled (chosen side l r) ≡ ok x)
+unfolding programsReply
+differs-unrolls mask side l r a e h = go (unrolled l) refl (unrolled r) refl h
+  where
+    pick : (side : Chosen) (x y : Listed) → unrolled l ≡ ok x → unrolled r ≡ ok y → (z : Listed) × (unrolled (chosen side l r) ≡ ok z)
+    pick leftSide x y p q = (x, p)
+    pick rightSide x y p q = (y, q)
+
+    go : (m : Ran Listed) → unrolled l ≡ m → (n : Ran Listed) → unrolled r ≡ n → sideReply left m (λ x. sideReply right n (λ y. listsReply mask x y)) ≡ differs a e
+        → (z : Listed) × (unrolled (chosen side l r) ≡ ok z)
+    go (ok x) p (ok y) q h = pick side x y p q
+    go (ok x) p (stop k o) q h = absurd (let z : _≡_ {A = ℕ} 0 1 = cc in omega arith)
+    go (stop k o) p n q h = absurd (let z : _≡_ {A = ℕ} 0 1 = cc in omega arith)
+
+-- what is told of an element of a program that unrolls
+origin-told : (s : List ℕ) (x : Listed) (a e n : ℕ) → unrolled s ≡ ok x → listWords ≤ n → originReply s a e n ≡ told (originOf s a e)
+unfolding originReply
+origin-told s x a e n u h = rw (le-leb 32768 n h, u) refl
+
+told-explained : (a e : ℕ) (o : Option Origin) → explanationBy a e (told o) ≡ explained a e o
+told-explained a e none = refl
+told-explained a e (some o) = refl
+
+-- the code's answer for an element of one program, by what the unroller found
+pub traced-says : (o : Found) (a e : ℕ) (t : Told) (x : Answer) → x ≡ answerBy a e (sourceSays (o .source)) → originSays o ≡ t
+    → _≡_ {A = Explanation} (record { answer = x; from = o .from; to = o .to; count = o .count; indices = o .indices }) (explanationBy a e t)
+traced-says o a e t x p q = ap (λ (x : Answer). record { answer = x; from = o .from; to = o .to; count = o .count; indices = o .indices }) p ∙ ap (explanationBy a e) q
+
+pub long-list : (one other cells terms : List ℕ) → enoughLent one other cells terms ≡ true → listWords ≤ length one
+long-list one other cells terms h =
+    leb-true 32768 (length one) (both (leb listWords (length one)) (leb listWords (length other) && (leb cellWords (length cells) && leb termWords (length terms))) h .0)
+
+module _ (long : Bool) (mask : ℕ) (side : Chosen) (l r : List ℕ) (q : Reply) (says : q ≡ entryReply long (programsReply mask l r))
+    (list list₁ : List ℕ) (lists : list₁ ≡ workLeft long list) (room : long ≡ true → listWords ≤ length list) where
+  length-kept : long ≡ true → length list₁ ≡ length list
+  length-kept h = ap length (lists ∙ ap (λ (b : Bool). workLeft b list) h) ∙ length-replicate (length list) 0
+
+  -- the reply, by cases
+  explained-by : (b : Bool) → long ≡ b → (m : Reply) → programsReply mask l r ≡ m
+      → repliedBy (entryReply b m) (λ a e. originReply (chosen side l r) a e (length list₁)) ≡ byReply (originOf (chosen side l r)) (entryReply b m)
+  explained-by false p m h = refl
+  explained-by true p (equal n) h = refl
+  explained-by true p (refused s k o) h = refl
+  explained-by true p (differs a e) h =
+      let u = differs-unrolls mask side l r a e h in
+      let n = length-kept p in
+      let k = room p in
+      ap (explanationBy a e) (origin-told (chosen side l r) (u .0) a e (length list₁) (u .1) (omega arith)) ∙ told-explained a e (originOf (chosen side l r) a e)
+
+  pub explain-says : repliedBy q (λ a e. originReply (chosen side l r) a e (length list₁)) ≡ explanation long mask side l r
+  unfolding explanation
+  explain-says = ap (λ (q : Reply). repliedBy q (λ a e. originReply (chosen side l r) a e (length list₁))) says ∙ explained-by long refl (programsReply mask l r) refl
+
+  left-by : (b : Bool) → long ≡ b → (m : Reply) → listLeft (entryReply b m) list₁ ≡ workLeft long list
+  left-by false p m = lists
+  left-by true p (equal n) = lists
+  left-by true p (refused s k o) = lists
+  left-by true p (differs a e) =
+      let n = length-kept p in
+      let k = room p in
+      let z : leb 32768 (length list₁) ≡ true = le-leb 32768 (length list₁) (omega arith) in
+      ap (λ (b : Bool). workLeft b list₁) z ∙ ap (λ (n : ℕ). replicate n 0) n ∙ ap (λ (b : Bool). workLeft b list) (sym p)
+
+  pub explain-leaves : listLeft q list₁ ≡ workLeft long list
+  explain-leaves = ap (λ (q : Reply). listLeft q list₁) says ∙ left-by long refl (programsReply mask l r)

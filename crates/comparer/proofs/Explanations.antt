@@ -1,0 +1,181 @@
+-- What an explanation says: the claims about it, and known pairs explained.
+use Prim.Native.Nat.{ℕ, _-_, _≤_}
+use mathlib.Core.Path.{_≡_, refl, sym, ap, _∙_, subst}
+use mathlib.Core.Logic.{_⊎_, inl, inr}
+use mathlib.Core.List.{List, [], _∷_}
+use mathlib.Core.Bool.{Bool, true, false, _&&_}
+use mathlib.Core.Option.{Option, none, some}
+use native.Mathlib.Omega.{arith}
+use lib.ListN.{length, take, drop}
+use lib.Dec.{leb}
+use lib.IntN.{ℤ, pos}
+use borrow.Author.Tests.{le-leb}
+use denote.Ref.{RefT, now}
+use Rattle.model.specs.Test.{if_then_else_}
+use Rattle.model.specs.Update.{Listed, written}
+use Rattle.model.specs.Reply.{Side, both, Reply, equal, differs, refused}
+use Rattle.reader.specs.Entries.{padded}
+use Rattle.reader.proofs.Lists.{take-padded}
+use Rattle.unroller.specs.Run.{ok}
+use Rattle.unroller.specs.Unroll.{unrolled}
+use Rattle.unroller.specs.Executed.{Origin, originOf}
+use Rattle.unroller.specs.Traced.{Traced, stretchOf, WrittenAt}
+use Rattle.unroller.proofs.Executed.{traces, written-at, never-written}
+use Rattle.comparer.specs.Entry.{entryReply, programsReply}
+use Rattle.comparer.specs.Explain as Explain
+use Rattle.comparer.specs.Explain.{Chosen, leftSide, rightSide, chosen, Answer, Explanation, plain, explained, byReply, explanation}
+use Rattle.comparer.specs.Claims.{TracedUpdates, WrittenIs, WrittenExplained, StartingIs, StartingExplained, RefusedExplained}
+use Rattle.comparer.specs.ExplainAnswers.{chosenSays, chosenOf, answerSays, explanationSays, inside, Part, IsPart}
+use Rattle.comparer.specs.Carried.{HandedOver, WrittenAnswered, OtherAnswered}
+use Rattle.comparer.specs.declared.explanation.Chosen as code
+use Rattle.comparer.specs.declared.explanation.Chosen.the-variants as side
+use Rattle.comparer.specs.declared.explanation.Answer as given
+use Rattle.comparer.specs.declared.explanation.Answer.the-variants as answer
+use Rattle.comparer.specs.declared.explanation.Explanation.{Explanation as Given}
+use Rattle.comparer.proofs.Explains.{differs-unrolls}
+
+pub traced-updates : TracedUpdates
+traced-updates s l u = traces s l u
+
+-- ---- by the comparison's reply
+module _ (long : Bool) (mask : ℕ) (side : Chosen) (l r : List ℕ) where
+  abbrev it : Explanation
+  it = explanation long mask side l r
+
+  -- 25, 27, an element that differs, or a refusal of the comparison
+  explained-by : {P : Type 0} → ((s : Side) (k p : ℕ) → it ≡ plain (Explain.refused s k p) → entryReply long (programsReply mask l r) ≡ refused s k p → P)
+      → ((n : ℕ) → it ≡ plain (Explain.refused both 27 0) → entryReply long (programsReply mask l r) ≡ equal n → P)
+      → ((a e : ℕ) → it ≡ explained a e (originOf (chosen side l r) a e) → programsReply mask l r ≡ differs a e → P) → P
+  unfolding explanation
+  explained-by {P} f g h = go (programsReply mask l r) refl long refl
+    where
+      go : (m : Reply) → programsReply mask l r ≡ m → (b : Bool) → long ≡ b → P
+      go m q false w = f both 25 0 (rw w refl) (rw w refl)
+      go (equal n) q true w = g n (rw (w, q) refl) (rw (w, q) refl)
+      go (differs a e) q true w = h a e (rw (w, q) refl) q
+      go (refused s k p) q true w = f s k p (rw (w, q) refl) (rw (w, q) refl)
+
+-- ---- the claims
+pub written-explained : WrittenExplained
+written-explained long mask side l r a e h =
+    explained-by long mask side l r
+    (λ s k p x _. absurd (let y : Explain.refused s k p ≡ Explain.written a e = sym (ap (λ (x : Explanation). x .answer) x) ∙ h in let z : _≡_ {A = ℕ} 0 1 = cc in omega arith))
+    (λ n x _. absurd (let y : Explain.refused both 27 0 ≡ Explain.written a e = sym (ap (λ (x : Explanation). x .answer) x) ∙ h in let z : _≡_ {A = ℕ} 0 1 = cc in omega arith))
+    λ b c x q. go b c (originOf (chosen side l r) b c) refl x q
+  where
+    go : (b c : ℕ) (o : Option Origin) → originOf (chosen side l r) b c ≡ o → explanation long mask side l r ≡ explained b c o → programsReply mask l r ≡ differs b c
+        → WrittenIs mask side l r a e (explanation long mask side l r)
+    go b c none i x q = absurd (let y : Explain.starting b c ≡ Explain.written a e = sym (ap (λ (x : Explanation). x .answer) x) ∙ h in let z : _≡_ {A = ℕ} 0 1 = cc in omega arith)
+    go b c (some o) i x q =
+        let y : Explain.written b c ≡ Explain.written a e = sym (ap (λ (x : Explanation). x .answer) x) ∙ h in
+        let f : b ≡ a = cc in
+        let g : c ≡ e = cc in
+        let u = differs-unrolls mask side l r b c q in
+        subst (λ (a : ℕ). WrittenIs mask side l r a e (explanation long mask side l r)) f
+        (subst (λ (e : ℕ). WrittenIs mask side l r b e (explanation long mask side l r)) g
+        (record { differ = q; list = u .0; unrolls = u .1; origin = o; handed = x; holds = written-at (chosen side l r) (u .0) (u .1) b c o i }))
+
+pub starting-explained : StartingExplained
+starting-explained long mask side l r a e h =
+    explained-by long mask side l r
+    (λ s k p x _. absurd (let y : Explain.refused s k p ≡ Explain.starting a e = sym (ap (λ (x : Explanation). x .answer) x) ∙ h in let z : _≡_ {A = ℕ} 0 1 = cc in omega arith))
+    (λ n x _. absurd (let y : Explain.refused both 27 0 ≡ Explain.starting a e = sym (ap (λ (x : Explanation). x .answer) x) ∙ h in let z : _≡_ {A = ℕ} 0 1 = cc in omega arith))
+    λ b c x q. go b c (originOf (chosen side l r) b c) refl x q
+  where
+    go : (b c : ℕ) (o : Option Origin) → originOf (chosen side l r) b c ≡ o → explanation long mask side l r ≡ explained b c o → programsReply mask l r ≡ differs b c
+        → StartingIs mask side l r a e (explanation long mask side l r)
+    go b c (some o) i x q = absurd (let y : Explain.written b c ≡ Explain.starting a e = sym (ap (λ (x : Explanation). x .answer) x) ∙ h in let z : _≡_ {A = ℕ} 0 1 = cc in omega arith)
+    go b c none i x q =
+        let y : Explain.starting b c ≡ Explain.starting a e = sym (ap (λ (x : Explanation). x .answer) x) ∙ h in
+        let f : b ≡ a = cc in
+        let g : c ≡ e = cc in
+        let u = differs-unrolls mask side l r b c q in
+        subst (λ (a : ℕ). StartingIs mask side l r a e (explanation long mask side l r)) f
+        (subst (λ (e : ℕ). StartingIs mask side l r b e (explanation long mask side l r)) g
+        (record { differ = q; list = u .0; unrolls = u .1; never = never-written (chosen side l r) (u .0) (u .1) b c i; handed = x }))
+
+pub refused-explained : RefusedExplained
+refused-explained long mask side l r s k p h =
+    explained-by long mask side l r
+    (λ t j o x q.
+    let y : Explain.refused t j o ≡ Explain.refused s k p = sym (ap (λ (x : Explanation). x .answer) x) ∙ h in
+    let f : refused t j o ≡ refused s k p = same-refusal t s j k o p y in
+    (x ∙ ap plain y, inl (q ∙ f)))
+    (λ n x q.
+    let y : Explain.refused both 27 0 ≡ Explain.refused s k p = sym (ap (λ (x : Explanation). x .answer) x) ∙ h in
+    let f : s ≡ both = cc in
+    let g : k ≡ 27 = cc in
+    let i : p ≡ 0 = cc in
+    (x ∙ ap plain y, inr (n, q, f, g, i)))
+    λ b c x q. absurd (go b c (originOf (chosen side l r) b c) (sym (ap (λ (x : Explanation). x .answer) x) ∙ h))
+  where
+    same-refusal : (t s : Side) (j k o p : ℕ) → Explain.refused t j o ≡ Explain.refused s k p → _≡_ {A = Reply} (refused t j o) (refused s k p)
+    same-refusal t s j k o p y =
+        let f : t ≡ s = cc in
+        let g : j ≡ k = cc in
+        let h : o ≡ p = cc in
+        λ i. refused (f i) (g i) (h i)
+
+    go : (b c : ℕ) (o : Option Origin) → explained b c o .answer ≡ Explain.refused s k p → ⊥
+    go b c none y = absurd (let z : _≡_ {A = ℕ} 0 1 = cc in omega arith)
+    go b c (some o) y = absurd (let z : _≡_ {A = ℕ} 0 1 = cc in omega arith)
+
+-- ---- carried to what the code answers
+now-chosen : (x : code.Chosen) (one other : RefT (List ℕ)) → now (chosenOf x one other) ≡ chosenOf x (now one) (now other)
+now-chosen side.Left one other = refl
+now-chosen side.Right one other = refl
+
+pub written-answered : WrittenAnswered
+written-answered long mask x one other r p a e says part h =
+    let w = written-explained long mask (chosenSays x) (now one) (now other) a e (sym (ap (λ (y : Explanation). y .answer) says) ∙ ap answerSays h) in
+    let o = w .origin in
+    let q : explanationSays r ≡ explained a e (some o) = says ∙ w .handed in
+    let s = chosenOf x one other in
+    let from : r .from ≡ o .from = ap (λ (y : Explanation). y .from) q in
+    let to : r .to ≡ o .to = ap (λ (y : Explanation). y .to) q in
+    let count : r .count ≡ length (o .values) = ap (λ (y : Explanation). y .count) q in
+    let n = ap length (now-chosen x one other) in
+    let lo = w .holds .stretch .some-bytes in
+    let hi = w .holds .stretch .in-bytes in
+    let b : inside (now s) (o .from) (o .to) ≡ true = ap (λ (b : Bool). b && leb (o .to) (length (now s))) (le-leb (o .from) (o .to) (omega arith)) ∙ le-leb (o .to) (length (now s)) (omega arith) in
+    let k = subst (λ (b : Bool). Part s (if b then o .from else 0) (if b then o .to else 0) p) b (subst (λ (m : ℕ). IsPart s (o .from) m p) to (subst (λ (m : ℕ). IsPart s m (r .to) p) from part)) in
+    record {
+      origin = o;
+      list = w .list;
+      differ = w .differ;
+      holds = w .holds;
+      counted = count;
+      indices = ap (λ (m : ℕ). take m (r .indices)) count ∙ ap (λ (y : Explanation). take (length (o .values)) (y .indices)) q ∙ take-padded 8 (pos 0) (o .values) (length (o .values)) refl;
+      part = k;
+      bytes = k .bytes ∙ ap (λ (s : List ℕ). stretchOf s o) (now-chosen x one other);
+    }
+
+-- an answer that hands over nothing
+empty-part : (s : RefT (List ℕ)) (r : Given) (p : RefT (List ℕ)) (y : Answer) → explanationSays r ≡ plain y → IsPart s (r .from) (r .to) p → (now p ≡ []) × (r .count ≡ 0)
+empty-part s r p y q part =
+    let from : r .from ≡ 0 = ap (λ (y : Explanation). y .from) q in
+    let to : r .to ≡ 0 = ap (λ (y : Explanation). y .to) q in
+    (go (inside (now s) 0 0) (subst (λ (m : ℕ). IsPart s 0 m p) to (subst (λ (m : ℕ). IsPart s m (r .to) p) from part)), ap (λ (y : Explanation). y .count) q)
+  where
+    go : (b : Bool) → Part s (if b then 0 else 0) (if b then 0 else 0) p → now p ≡ []
+    go true k = k .bytes
+    go false k = k .bytes
+
+says-written : (y : given.Answer) (a e : ℕ) → answerSays y ≡ Explain.written a e → y ≡ answer.Written a e
+says-written (answer.Written b c) a e q =
+    let f : b ≡ a = cc in
+    let g : c ≡ e = cc in
+    λ i. answer.Written (f i) (g i)
+says-written (answer.Starting b c) a e q = absurd (let z : _≡_ {A = ℕ} 0 1 = cc in omega arith)
+says-written (answer.Refused s k p) a e q = absurd (let z : _≡_ {A = ℕ} 0 1 = cc in omega arith)
+
+pub other-answered : OtherAnswered
+other-answered long mask x one other r p says part no-write =
+    explained-by long mask (chosenSays x) (now one) (now other)
+    (λ s k o y _. empty-part (chosenOf x one other) r p (Explain.refused s k o) (says ∙ y) part)
+    (λ n y _. empty-part (chosenOf x one other) r p (Explain.refused both 27 0) (says ∙ y) part)
+    λ a e y _. go a e (originOf (chosen (chosenSays x) (now one) (now other)) a e) (says ∙ y)
+  where
+    go : (a e : ℕ) (o : Option Origin) → explanationSays r ≡ explained a e o → (now p ≡ []) × (r .count ≡ 0)
+    go a e none q = empty-part (chosenOf x one other) r p (Explain.starting a e) q part
+    go a e (some o) q = absurd (no-write a e (says-written (r .answer) a e (ap (λ (y : Explanation). y .answer) q)))
