@@ -1,8 +1,12 @@
 // The checker for C and Rust to link (`rt staticlib cabi`, bindings/c/tengmua.h): a slice is a pointer and a length, a reply four
-// numbers by value. Nothing is asked of a caller beyond that its slices are memory it owns, and that none it lends to be
+// numbers by value, an explanation nine and eight index values. Nothing is asked of a caller beyond that its slices are memory it owns, and that none it lends to be
 // written overlaps another.
+use comparer::Answer;
+use comparer::Chosen;
+use comparer::Explanation;
 use comparer::compare_lists;
 use comparer::compare_programs_masked;
+use comparer::explain;
 use comparer::reply::Reply;
 use comparer::reply::Side;
 use unroller::Checked;
@@ -18,7 +22,9 @@ ghost use Rattle.unroller.specs.UnrollAnswers.{unrolledSays};
 ghost use Rattle.unroller.specs.CheckAnswers.{checkedSays};
 ghost use Rattle.comparer.specs.Answers.{sideSays, replySays};
 ghost use Rattle.comparer.specs.Entry.{enoughLent, entryReply, programsReply, wordsReply};
-ghost use Rattle.cabi.specs.Numbers.{sideNumber, numbersOf, unrolledNumbers, checkedNumbers};
+ghost use Rattle.comparer.specs.Explain.{explanation};
+ghost use Rattle.comparer.specs.ExplainAnswers.{chosenSays, explanationSays};
+ghost use Rattle.cabi.specs.Numbers.{sideNumber, numbersOf, unrolledNumbers, checkedNumbers, chosenBy, explanationNumbers};
 
 // Kind 0, equal: how many elements were compared (of `unroll` the updates, of `check_list` 0). 1, differs: array and cell.
 // 2, refused: side (0 left, 1 right, 2 both, 3 input), question and place. Unused numbers are 0.
@@ -159,4 +165,101 @@ pub extern "C" fn tengmua_check_list(list: &[u32]) -> Numbers
 {
     let answer = check_list(list);
     checked_numbers(answer)
+}
+
+// Kind 0, written: array, cell, the stretch from `from` up to `to`, and the first `count` index values. 1, starting content: array and
+// cell. 2, refused: side (0 left, 1 right, 2 both, 3 input), question and place. Unused numbers are 0.
+#[repr(C)]
+pub struct ExplanationNumbers {
+    pub kind: usize,
+    pub side: usize,
+    pub question: usize,
+    pub place: usize,
+    pub array: usize,
+    pub cell: usize,
+    pub from: usize,
+    pub to: usize,
+    pub count: usize,
+    pub indices: [i16; 8],
+}
+
+fn chosen_by(side: usize) -> Chosen
+    ensures { λ r. ⌜ chosenSays r ≡ chosenBy side ⌝ }
+{
+    if side == 0 {
+        return Chosen::Left;
+    }
+    Chosen::Right
+}
+
+fn explanation_numbers(explanation: Explanation) -> ExplanationNumbers
+    ensures { λ r. ⌜ r ≡ explanationNumbers (explanationSays explanation) ⌝ }
+{
+    let answer = explanation.answer;
+    let indices = explanation.indices;
+    let mut numbers = ExplanationNumbers {
+        kind: 0,
+        side: 0,
+        question: 0,
+        place: 0,
+        array: 0,
+        cell: 0,
+        from: explanation.from,
+        to: explanation.to,
+        count: explanation.count,
+        indices,
+    };
+    match answer {
+        Answer::Written(a, e) => {
+            numbers.array = a;
+            numbers.cell = e;
+        }
+        Answer::Starting(a, e) => {
+            numbers.kind = 1;
+            numbers.array = a;
+            numbers.cell = e;
+        }
+        Answer::Refused(side, k, p) => {
+            numbers.kind = 2;
+            numbers.side = side_number(side);
+            numbers.question = k as usize;
+            numbers.place = p;
+        }
+    }
+    numbers
+}
+
+// Explains the first difference of two programs, for the left (0) or the right (any other number). Work memory as of a compare.
+#[no_mangle]
+pub extern "C" fn tengmua_explain(
+    left: &[u8],
+    right: &[u8],
+    mask: u16,
+    side: usize,
+    left_list: &mut [u32],
+    right_list: &mut [u32],
+    cells: &mut [u32],
+    terms: &mut [u32],
+) -> ExplanationNumbers
+    ensures { λ r. ⌜ (
+        let long = enoughLent (now («left_list» .entry)) (now («right_list» .entry)) (now (cells .entry)) (now (terms .entry)) in
+        (r ≡ explanationNumbers (explanation long mask (chosenBy side) (now (left .entry)) (now (right .entry))))
+        × (now («left_list» .exit) ≡ workLeft long (now («left_list» .entry)))
+        × (now («right_list» .exit) ≡ workLeft long (now («right_list» .entry)))
+        × (now (cells .exit) ≡ workLeft long (now (cells .entry)))
+        × (now (terms .exit) ≡ workLeft long (now (terms .entry)))
+        ) ⌝ }
+{
+    let chosen = chosen_by(side);
+    let explanation = explain(
+        left,
+        right,
+        mask,
+        chosen,
+        left_list,
+        right_list,
+        cells,
+        terms,
+    );
+    explanation_numbers(explanation)
 }
