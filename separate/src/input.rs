@@ -31,7 +31,7 @@ pub fn compare_input(
 
 /// The left and the right program. A left length above the limit is refused as
 /// stated, whether or not so many bytes follow.
-fn split(input: &[u8]) -> Result<(&[u8], &[u8]), Reply> {
+pub fn split(input: &[u8]) -> Result<(&[u8], &[u8]), Reply> {
     let unframed = Question::Framing.at(0).reply(Side::Input);
     let (length, rest) = input.split_first_chunk().ok_or(unframed)?;
     let length = usize::from(u16::from_le_bytes(*length));

@@ -1,9 +1,11 @@
 //! Loop pair checker, written separately (README.md).
 //!
-//! Two encoded loop programs, or two update lists, go in; a reply comes out.
+//! Two encoded loop programs, or two update lists, go in; a reply comes out, and
+//! on a difference, if asked for, where each side wrote the element.
 
 pub mod compare;
 pub mod entries;
+pub mod explain;
 pub mod input;
 pub mod limits;
 pub mod line;
@@ -20,8 +22,9 @@ pub mod tree;
 pub mod work;
 
 pub use compare::{compare_lists, compare_programs, compare_programs_masked};
+pub use explain::{explain, origin_of, stretch, Chosen, Explanation, Origin};
 pub use input::compare_input;
-pub use line::line_of;
+pub use line::{line_of, line_of_explanation};
 pub use list::check_list;
 pub use read::read_program;
 pub use reply::{Question, Refusal, Reply, Side};

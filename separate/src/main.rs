@@ -4,13 +4,17 @@ use std::collections::BTreeMap;
 use std::io::{self, BufWriter, Read, Write};
 use std::process::ExitCode;
 
-use separate::input::INPUT_BYTES;
-use separate::random::{ListPairs, Pairs, Records};
-use separate::{entries, line_of, notation, stream, Refusal, Reply, Work};
+use separate::compare::ALL;
+use separate::input::{split, INPUT_BYTES};
+use separate::random::{Explanations, ListPairs, Pairs, Records};
+use separate::{
+    entries, line_of, line_of_explanation, notation, stream, Chosen, Refusal, Reply, Work,
+};
 
-const USAGE: &str = "usage: separate pair | lines | histogram | list-lines | entry-lines
+const USAGE: &str = "usage: separate pair | explain | lines | histogram | list-lines | entry-lines
        separate asm [--places] | dis [--places]
-       separate random COUNT SEED | random-lists COUNT SEED | random-entries COUNT SEED";
+       separate random COUNT SEED | random-lists COUNT SEED | random-entries COUNT SEED
+       separate random-explanations COUNT SEED";
 
 /// What goes to standard error before the program ends with status 2.
 type Outcome = Result<(), String>;
@@ -20,6 +24,7 @@ fn main() -> ExitCode {
     let words: Option<Vec<_>> = arguments.iter().map(|argument| argument.to_str()).collect();
     let outcome = match words.as_deref() {
         Some(["pair"]) => pair(),
+        Some(["explain"]) => explain(),
         Some(["lines"]) => lines(),
         Some(["histogram"]) => histogram(),
         Some(["list-lines"]) => list_lines(),
@@ -31,6 +36,7 @@ fn main() -> ExitCode {
         Some(["random", count, seed]) => random(count, seed),
         Some(["random-lists", count, seed]) => random_lists(count, seed),
         Some(["random-entries", count, seed]) => random_entries(count, seed),
+        Some(["random-explanations", count, seed]) => random_explanations(count, seed),
         _ => Err(USAGE.to_string()),
     };
     match outcome {
@@ -58,13 +64,29 @@ fn output(write: impl FnOnce(&mut dyn Write) -> io::Result<()>) -> Outcome {
     write(&mut out).and_then(|()| out.flush()).map_err(failed)
 }
 
-fn pair() -> Outcome {
+/// A framed pair. What follows can change no reply, so it is not waited for.
+fn framed_input() -> Result<Vec<u8>, String> {
     let mut input = Vec::new();
-    // What follows can change no reply, so it is not waited for.
-    let most = INPUT_BYTES as u64;
-    io::stdin().lock().take(most).read_to_end(&mut input).map_err(failed)?;
-    let line = line_of(Work::default().input(&input));
+    io::stdin().lock().take(INPUT_BYTES as u64).read_to_end(&mut input).map_err(failed)?;
+    Ok(input)
+}
+
+fn pair() -> Outcome {
+    let line = line_of(Work::default().input(&framed_input()?));
     output(|out| writeln!(out, "{line}"))
+}
+
+/// The reply's line and, on a difference, that of each side's explanation.
+fn explain() -> Outcome {
+    let input = framed_input()?;
+    let mut work = Work::default();
+    let reply = work.input(&input);
+    let mut lines = vec![line_of(reply)];
+    if let (Reply::Differs { .. }, Ok((left, right))) = (reply, split(&input)) {
+        let line = |chosen| line_of_explanation(work.explain(left, right, ALL, chosen));
+        lines.extend([Chosen::Left, Chosen::Right].map(line));
+    }
+    output(|out| lines.iter().try_for_each(|line| writeln!(out, "{line}")))
 }
 
 /// Answers each pair of a stream.
@@ -155,6 +177,14 @@ fn random_entries(count: &str, seed: &str) -> Outcome {
     let (count, seed) = (number(count)?, number(seed)?);
     output(|mut out| {
         let mut records = Records::new(seed).take(count as usize);
+        records.try_for_each(|record| stream::write_input(&mut out, &record))
+    })
+}
+
+fn random_explanations(count: &str, seed: &str) -> Outcome {
+    let (count, seed) = (number(count)?, number(seed)?);
+    output(|mut out| {
+        let mut records = Explanations::new(seed).take(count as usize);
         records.try_for_each(|record| stream::write_input(&mut out, &record))
     })
 }

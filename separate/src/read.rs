@@ -37,8 +37,12 @@ pub struct Form {
 /// in the program's rows; an array's subscripts stand one after another.
 #[derive(Clone, Debug, PartialEq, Eq)]
 pub enum Item {
+    /// `behind` is the place behind the expression, `depth` the number of enclosing loops; both
+    /// narrow, so that an item takes no more room than a loop needs.
     Statement {
         place: usize,
+        behind: u32,
+        depth: u8,
         target: usize,
         subscripts: usize,
         nodes: Range<usize>,
@@ -203,7 +207,15 @@ impl<'a> Reader<'a> {
         let first = self.program.nodes.len();
         self.expression(scope.loops, 0)?;
         let nodes = first..self.program.nodes.len();
-        self.program.items.push(Item::Statement { place, target, subscripts, nodes });
+        let (behind, depth) = (self.place as u32, scope.loops as u8);
+        self.program.items.push(Item::Statement {
+            place,
+            behind,
+            depth,
+            target,
+            subscripts,
+            nodes,
+        });
         Ok(())
     }
 

@@ -30,6 +30,7 @@ pub enum Question {
     Terms = 24,
     Memory = 25,
     List = 26,
+    Difference = 27,
 }
 
 impl Question {
@@ -55,11 +56,18 @@ pub struct Refusal {
 }
 
 impl Refusal {
-    /// The reply for a refusal of the program or list on `side`.
+    /// The side that is named for a refusal of the program or list on `side`.
     /// Short memory belongs to no side, so 25 is "both".
+    pub fn side(self, side: Side) -> Side {
+        if self.number == Question::Memory as u8 {
+            Side::Both
+        } else {
+            side
+        }
+    }
+
     pub fn reply(self, side: Side) -> Reply {
-        let side = if self.number == Question::Memory as u8 { Side::Both } else { side };
-        Reply::Refused { side, number: self.number, place: self.place }
+        Reply::Refused { side: self.side(side), number: self.number, place: self.place }
     }
 }
 

@@ -32,9 +32,33 @@ pub fn unroll(program: &[u8], list: &mut [u32]) -> Result<usize, Refusal> {
         .inspect_err(|_| list.fill(0))
 }
 
+/// The values of the enclosing loops' indices, outermost first.
+pub type Indices = [i16; ITEM_NESTING];
+
+/// Sees each update of a run, in the run's order.
+pub trait Watch {
+    /// `item` is the statement's number in the program's row. What stands
+    /// behind its loops in `indices` is left over.
+    fn update(&mut self, item: usize, target: usize, cell: usize, indices: &Indices);
+}
+
+/// Nobody watches. A run is compiled for each watch, so this one costs nothing.
+impl Watch for () {
+    fn update(&mut self, _: usize, _: usize, _: usize, _: &Indices) {}
+}
+
 /// Runs a program that was read. The list must be long enough; it gets the
 /// layout and zeros after it, or anything if the run is refused.
 pub fn run(program: &Program, list: &mut [u32]) -> Result<Counts, Refusal> {
+    run_watched(program, list, &mut ())
+}
+
+/// The same, each update being shown to `watch`.
+pub fn run_watched<W: Watch>(
+    program: &Program,
+    list: &mut [u32],
+    watch: &mut W,
+) -> Result<Counts, Refusal> {
     let (header, records) = list.split_first_chunk_mut::<HEADER>().expect("length asked before");
     list::write_header(&program.tables, header);
     let mut run = Run {
@@ -44,6 +68,7 @@ pub fn run(program: &Program, list: &mut [u32]) -> Result<Counts, Refusal> {
         counts: Counts::default(),
         indices: [0; ITEM_NESTING],
         written: [false; CELLS],
+        watch,
     };
     run.items(0..program.items.len())?;
     let counts = run.counts;
@@ -51,7 +76,7 @@ pub fn run(program: &Program, list: &mut [u32]) -> Result<Counts, Refusal> {
     Ok(counts)
 }
 
-struct Run<'a> {
+struct Run<'a, W> {
     program: &'a Program,
     records: &'a mut [Record],
     /// The record to be written next.
@@ -59,13 +84,14 @@ struct Run<'a> {
     counts: Counts,
     /// What stands behind the enclosing loops is left over and meets only
     /// coefficients that are 0.
-    indices: [i16; ITEM_NESTING],
+    indices: Indices,
     written: [bool; CELLS],
+    watch: &'a mut W,
 }
 
 /// The widest value is -32,768 - 8 * 128 * 32,768, so 32 signed bits always
 /// hold it and question 21 never has a "no".
-fn value(form: &Form, indices: &[i16; ITEM_NESTING]) -> i32 {
+fn value(form: &Form, indices: &Indices) -> i32 {
     const WIDEST: i64 = (1 << 15) + (ITEM_NESTING as i64) * (1 << 7) * (1 << 15);
     const { assert!(WIDEST <= i32::MAX as i64) };
     let products = form.coefficients.iter().zip(indices);
@@ -73,15 +99,16 @@ fn value(form: &Form, indices: &[i16; ITEM_NESTING]) -> i32 {
     i32::from(form.constant) + sum
 }
 
-impl<'a> Run<'a> {
+impl<'a, W: Watch> Run<'a, W> {
     fn items(&mut self, range: Range<usize>) -> Result<(), Refusal> {
         let program: &'a Program = self.program;
         let mut at = range.start;
         while at < range.end {
             at = match &program.items[at] {
-                Item::Statement { place, target, subscripts, nodes } => {
+                Item::Statement { place, target, subscripts, nodes, .. } => {
                     let nodes = &program.nodes[nodes.clone()];
-                    self.statement(*place, *target, *subscripts, nodes)?;
+                    let cell = self.statement(*place, *target, *subscripts, nodes)?;
+                    self.watch.update(at, *target, cell, &self.indices);
                     at + 1
                 }
                 Item::Loop { place, depth, start, stop, step, end } => {
@@ -127,13 +154,14 @@ impl<'a> Run<'a> {
         Ok(())
     }
 
+    /// Gives the cell that is written.
     fn statement(
         &mut self,
         place: usize,
         target: usize,
         subscripts: usize,
         nodes: &[Node],
-    ) -> Result<(), Refusal> {
+    ) -> Result<usize, Refusal> {
         Question::Updates.ask(self.counts.updates < UPDATES, place)?;
         Question::Nodes.ask(self.counts.nodes + nodes.len() <= NODES, place)?;
         let cell = self.cell(place, target, subscripts)?;
@@ -160,7 +188,7 @@ impl<'a> Run<'a> {
         self.written[self.program.tables.first_cell(target) + cell] = true;
         self.counts.updates += 1;
         self.counts.nodes += nodes.len();
-        Ok(())
+        Ok(cell)
     }
 
     fn push(&mut self, record: Record) {

@@ -1,6 +1,7 @@
 //! Work memory that is owned and used again, for callers that lend none.
 
 use crate::compare::{compare_lists, compare_programs_masked, ALL};
+use crate::explain::{explain, Chosen, Explanation};
 use crate::input::compare_input;
 use crate::limits::{CELL_WORDS, LIST_WORDS, TERM_WORDS};
 use crate::reply::{Refusal, Reply};
@@ -38,6 +39,11 @@ impl Work {
     pub fn programs_masked(&mut self, left: &[u8], right: &[u8], mask: u16) -> Reply {
         let Work { left_list, right_list, cells, terms } = self;
         compare_programs_masked(left, right, mask, left_list, right_list, cells, terms)
+    }
+
+    pub fn explain(&mut self, left: &[u8], right: &[u8], mask: u16, chosen: Chosen) -> Explanation {
+        let Work { left_list, right_list, cells, terms } = self;
+        explain(left, right, mask, chosen, left_list, right_list, cells, terms)
     }
 
     pub fn lists(&mut self, left: &[u32], right: &[u32], mask: u16) -> Reply {

@@ -39,11 +39,30 @@ fn pair_prints_one_line() {
 }
 
 #[test]
+fn explain_prints_one_line_or_three() {
+    let changed = l_with(&[(29, 1), (31, 0xFF)]);
+    for (input, lines) in [
+        (frame(&L, &L), "equal 2\n"),
+        (frame(&L, &changed), "differs 1 0\nwritten 1 0 22 32 0\nwritten 1 0 22 32 0\n"),
+        (frame(&L, &l_with(&[(18, 0)])), "differs 1 1\nwritten 1 1 22 32 1\nstarting 1 1\n"),
+        (frame(&L, &L[..33]), "refused right 3 33\n"),
+        (Vec::new(), "refused input 1 0\n"),
+    ] {
+        let output = separate(&["explain"], &input);
+        assert_eq!(text(&output.stdout), lines);
+        assert!(output.stderr.is_empty());
+        assert_eq!(output.status.code(), Some(0));
+    }
+}
+
+#[test]
 fn wrong_usage() {
-    let wrong: [&[&str]; 10] = [
+    let wrong: [&[&str]; 12] = [
         &[],
         &["pears"],
         &["pair", "x"],
+        &["explain", "x"],
+        &["random-explanations", "3"],
         &["random"],
         &["random", "3"],
         &["random", "3", "4", "5"],
@@ -98,11 +117,13 @@ fn list_pairs() {
 
 #[test]
 fn entry_records() {
-    let stream = separate(&["random-entries", "200", "5"], b"").stdout;
-    assert_eq!(stream, separate(&["random-entries", "200", "5"], b"").stdout);
-    let output = separate(&["entry-lines"], &stream);
-    assert_eq!(text(&output.stdout).lines().count(), 200);
-    assert_eq!(output.status.code(), Some(0));
+    for made in ["random-entries", "random-explanations"] {
+        let stream = separate(&[made, "200", "5"], b"").stdout;
+        assert_eq!(stream, separate(&[made, "200", "5"], b"").stdout);
+        let output = separate(&["entry-lines"], &stream);
+        assert_eq!(text(&output.stdout).lines().count(), 200);
+        assert_eq!(output.status.code(), Some(0));
+    }
 }
 
 #[test]

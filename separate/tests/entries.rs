@@ -140,7 +140,79 @@ fn pairs_and_lines() {
     assert_eq!(call(31, &short, &lent[4..]), "31 2 2 25 0 0 0 0 0");
     assert_eq!(call(32, &[0, 32_768, 32_768, 4_096, 32_768], b""), "32 2 3 1 0 0 0 0 0");
     let equal = b"equal 2\n".map(usize::from);
-    assert_eq!(call(33, &[3, 2], b""), format!("33 8{}{}", text(&equal), text(&[0; 56])));
+    assert_eq!(call(33, &[3, 2], b""), format!("33 8{}{}", text(&equal), text(&[0; 152])));
+}
+
+/// Program L beside one that writes cell 0 alone, under all bits.
+fn lent_to_explain(side: u8) -> Vec<u8> {
+    let mut right = L;
+    right[18] = 0;
+    [&[7, 0, 0, 0, 0xFF, 0xFF, side][..], &L, &right].concat()
+}
+
+#[test]
+fn explanations() {
+    let enough = [34, 32_768, 33_000, 4_096, 32_768, 1];
+    let written = "34 0 0 0 0 1 1 22 32 1 1 0 0 0 0 0 0 0 0 0 0 0";
+    assert_eq!(call(34, &enough, &lent_to_explain(0)), written);
+    let starting = "34 1 0 0 0 1 1 0 0 0 0 0 0 0 0 0 0 0 0 0 0 0";
+    for side in [1, 2, 255] {
+        assert_eq!(call(34, &enough, &lent_to_explain(side)), starting);
+    }
+    let mut lent = lent_to_explain(0);
+    lent[4] = 0xFD;
+    let nothing = "34 2 2 27 0 0 0 0 0 0 0 0 0 0 0 0 0 0 0 0 0 0";
+    assert_eq!(call(34, &enough, &lent), nothing);
+    // Words 7, and 7 * 3 + 7; the others have none.
+    let short = call(34, &[34, 1, 2, 0, 0, 1], &lent);
+    assert_eq!(short, "34 2 2 25 0 0 0 0 0 0 0 0 0 0 0 0 0 0 7 28 0 0");
+    for unfit in [[69, 0, 0, 0, 0, 1], [0, 33_001, 0, 0, 0, 1], [0, 0, 0, 0, 0, 19]] {
+        assert_eq!(call(34, &unfit, &lent), "34 -");
+    }
+    assert_eq!(call(34, &[], &[0, 0]), "34 -");
+    assert_eq!(call(34, &[], &[0, 0, 0]), "34 2 2 25 0 0 0 0 0 0 0 0 0 0 0 0 0 0 0 0 0 0");
+}
+
+#[test]
+fn stretches_and_origins() {
+    assert_eq!(call(35, &[3, 0, 1, 3], b"abcde"), format!("35 2 {}", 3 * 98 + 99));
+    assert_eq!(call(35, &[3, 7, 1, 2], b"abcde"), "35 1 101");
+    assert_eq!(call(35, &[3, 0, 2, 1], b"abcde"), "35 0 0");
+    assert_eq!(call(35, &[3, 1, 1, MOST], b"abcde"), "35 0 0");
+    assert_eq!(call(35, &[6, 1, 1, 1], b"abcde"), "35 -");
+    let lent = [&[7, 0, 0, 0][..], &L].concat();
+    let call = |arguments: &[usize]| call(36, arguments, &lent);
+    assert_eq!(call(&[1, 1, 32_768, 0, 0, 1]), "36 0 0 0 0 22 32 1 1 0 0 0 0 0 0 0 0");
+    assert_eq!(call(&[1, MOST, 33_000, 0, 0, 1]), "36 1 0 0 0 0 0 0 0 0 0 0 0 0 0 0 0");
+    assert_eq!(call(&[1, 1, 2, 0, 0, 1]), "36 2 2 25 0 0 0 0 0 0 0 0 0 0 0 0 28");
+    assert_eq!(call(&[1, 1, 32_768, 0, 0, 0]), "36 2 0 4 0 0 0 0 0 0 0 0 0 0 0 0 0");
+    assert_eq!(call(&[1, 1, 33_001, 0, 0, 1]), "36 -");
+    assert_eq!(call(&[1, 1, 0, 0, 0, 10]), "36 -");
+}
+
+/// The line of a record as text, its length before it.
+fn printed(line: &str) -> (usize, String) {
+    let mut numbers = line.split(' ').skip(1).map(|number| number.parse::<usize>().unwrap());
+    let length = numbers.next().unwrap();
+    let bytes: Vec<_> = numbers.map(|byte| byte as u8).collect();
+    assert_eq!(bytes.len(), 160);
+    assert!(bytes[length..].iter().all(|&byte| byte == 0));
+    (length, String::from_utf8(bytes[..length].to_vec()).unwrap())
+}
+
+#[test]
+fn lines_of_explanations() {
+    let indices = [0, 0, 0xFB, 0xFF, 0, 0x80, 9];
+    let line = |arguments: &[usize]| printed(&call(37, arguments, &indices)).1;
+    assert_eq!(line(&[0, 1, 0, 22, 33, 2]), "written 1 0 22 33 0 -5\n");
+    // The fourth value is not there as a whole.
+    let all = "written 1 0 22 33 0 -5 -32768 0 0 0 0 0\n";
+    assert_eq!(line(&[3, 1, 0, 22, 33, 8]), all);
+    assert_eq!(line(&[3, 1, 0, 22, 33, MOST]), all);
+    assert_eq!(line(&[1, MOST, 3, 22, 33, 2]), format!("starting {MOST} 3\n"));
+    assert_eq!(line(&[5, 6, 256 + 27, 4, 33, 2]), "refused both 27 4\n");
+    let longest = call(37, &[0, MOST, MOST, MOST, MOST, 8], &[0, 0x80].repeat(8));
+    assert_eq!(printed(&longest).0, 8 + 4 * 20 + 3 + 8 * 7 + 1);
 }
 
 #[test]
@@ -169,7 +241,8 @@ fn every_entry_is_reached_with_and_without_a_no() {
         assert!(count(&format!("{entry} 1")) >= 100, "{entry} in {counts:?}");
     }
     let noes = ["7 0 10", "8 0 11", "18 0 10", "18 0 12", "19 0 13", "20 0 12", "23 0 9"];
-    let all = ["1 0", "1 1", "30 0 25", "31 1", "31 2", "32 1", "32 2", "-"];
+    let all = ["1 0", "1 1", "30 0 25", "31 1", "31 2", "32 1", "32 2", "34 0 0", "34 2"];
+    let all = all.into_iter().chain(["34 -", "35 -", "36 0 0", "36 1", "36 2", "-"]);
     for kind in noes.into_iter().chain(all) {
         assert!(count(kind) >= 5, "{kind} in {counts:?}");
     }

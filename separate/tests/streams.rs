@@ -2,7 +2,8 @@
 
 use std::collections::BTreeMap;
 
-use separate::random::{ListPairs, Pairs};
+use separate::entries;
+use separate::random::{Explanations, ListPairs, Pairs};
 use separate::stream::{inputs, lists, write_input, write_lists, Cut};
 use separate::{line_of, Reply, Side, Work};
 
@@ -40,6 +41,65 @@ fn two_thousand_pairs_cover_everything() {
     }
 }
 
+/// Mask, side and the two programs of a record of `explain`.
+fn lent(record: &[u8]) -> (u16, u8, &[u8], &[u8]) {
+    let number = |k: usize| {
+        let bytes = &record[1 + 8 * k..][..8];
+        u64::from_le_bytes(bytes.try_into().unwrap()) as usize
+    };
+    let rest = &record[49 + 4 * number(5)..];
+    let (left, right) = rest[3..].split_at(number(0));
+    (u16::from_le_bytes([rest[0], rest[1]]), rest[2], left, right)
+}
+
+/// How often a program writes an element.
+fn writes(program: &[u8], array: u32, cell: u32) -> usize {
+    let mut list = vec![0; separate::limits::LIST_WORDS];
+    separate::unroll(program, &mut list).unwrap();
+    let list = separate::list::decode(&list).unwrap();
+    list.updates().filter(|(update, _)| update[1..] == [array, cell]).count()
+}
+
+#[test]
+fn three_thousand_explanations_cover_everything() {
+    let mut counts = BTreeMap::new();
+    let mut count = |kind: String| *counts.entry(kind).or_insert(0usize) += 1;
+    for record in Explanations::new(1).take(3_000) {
+        let line = entries::line(&record);
+        let numbers: Vec<i64> =
+            line.split(' ').map(|number| number.parse().expect("every record fits")).collect();
+        let (mask, side, left, right) = lent(&record);
+        let masked = if mask == 0xFFFF { "all" } else { "masked" };
+        match numbers[1] {
+            0 => {
+                count(format!("written {side} {masked}"));
+                count(format!("depth {}", numbers[9]));
+                let program = if side == 0 { left } else { right };
+                let again = writes(program, numbers[5] as u32, numbers[6] as u32);
+                count(if again > 1 { "again" } else { "once" }.to_string());
+                if numbers[10..18].iter().any(|&index| index < 0) {
+                    count("negative".to_string());
+                }
+            }
+            1 => count(format!("starting {side} {masked}")),
+            _ => count(format!("refused {}", numbers[3])),
+        }
+    }
+    let mut wanted: Vec<_> = (0..=8).map(|depth| (format!("depth {depth}"), 20)).collect();
+    for side in 0..2 {
+        for masked in ["all", "masked"] {
+            wanted.push((format!("written {side} {masked}"), 100));
+            wanted.push((format!("starting {side} {masked}"), 30));
+        }
+    }
+    wanted.extend([("again".to_string(), 300), ("negative".to_string(), 100)]);
+    wanted.extend([25, 27].map(|number| (format!("refused {number}"), 20)));
+    wanted.extend([3, 9, 16, 22, 24].map(|number| (format!("refused {number}"), 1)));
+    for (kind, least) in wanted {
+        assert!(counts.get(&kind).is_some_and(|&count| count >= least), "{kind} in {counts:?}");
+    }
+}
+
 #[test]
 fn a_seed_fixes_the_stream() {
     let first: Vec<_> = Pairs::new(9).take(50).collect();
@@ -47,6 +107,9 @@ fn a_seed_fixes_the_stream() {
     assert_ne!(first, Pairs::new(10).take(50).collect::<Vec<_>>());
     let lists: Vec<_> = ListPairs::new(9).take(20).collect();
     assert_eq!(lists, ListPairs::new(9).take(20).collect::<Vec<_>>());
+    let explanations: Vec<_> = Explanations::new(9).take(50).collect();
+    assert_eq!(explanations, Explanations::new(9).take(50).collect::<Vec<_>>());
+    assert_ne!(explanations, Explanations::new(10).take(50).collect::<Vec<_>>());
 }
 
 #[test]

@@ -2,6 +2,7 @@
 //! definition, and the line that a record's call gives. README.md has the
 //! format of records.
 
+mod explanations;
 mod fields;
 mod grammar;
 pub(crate) mod numbers;
@@ -9,7 +10,7 @@ mod store;
 
 use std::fmt::{Display, Write};
 
-use crate::line::line_of;
+use crate::line::{self, line_of};
 use crate::read::{read_program, read_tables};
 use crate::reply::{Question, Refusal, Reply, Side};
 use crate::{compare_input, compare_programs};
@@ -59,6 +60,24 @@ fn memory(stored: &[u8], period: usize) -> Vec<u32> {
     (0..MEMORY).map(|word| word_at(stored, 4 * (word % period.max(1)))).collect()
 }
 
+/// Memories of these lengths over `k` stored words, and what follows the words.
+fn memories<const N: usize>(
+    lengths: [usize; N],
+    k: usize,
+    s: &[u8],
+) -> Result<([Vec<u32>; N], &[u8]), Unfit> {
+    if k > s.len() / 4 || lengths.iter().any(|&length| length > MEMORY) {
+        return Err(Unfit);
+    }
+    let (stored, s) = s.split_at(4 * k);
+    let whole = memory(stored, k);
+    Ok((lengths.map(|length| whole[..length].to_vec()), s))
+}
+
+fn side_of(number: usize) -> Side {
+    [Side::Left, Side::Right, Side::Both, Side::Input][number % 4]
+}
+
 struct Line(String);
 
 impl Line {
@@ -100,9 +119,9 @@ impl Line {
     }
 
     /// Three is odd, so that one word that differs changes the sum.
-    fn sum(&mut self, memory: &[u32]) {
-        let add = |sum: u32, &word: &u32| sum.wrapping_mul(3).wrapping_add(word);
-        self.say(memory.iter().fold(0, add));
+    fn sum(&mut self, memory: impl IntoIterator<Item = u32>) {
+        let add = |sum: u32, word| sum.wrapping_mul(3).wrapping_add(word);
+        self.say(memory.into_iter().fold(0, add));
     }
 
     fn call(&mut self, entry: u8, arguments: [usize; 6], s: &[u8]) -> Result<(), Unfit> {
@@ -120,6 +139,10 @@ impl Line {
             30 => self.script(arguments, s)?,
             31 | 32 => self.compare(entry, arguments, s)?,
             33 => self.reply_line(arguments),
+            34 => self.explain(arguments, s)?,
+            35 => self.stretch(arguments, s)?,
+            36 => self.origin(arguments, s)?,
+            37 => self.explanation_line(arguments, s),
             _ => return Err(Unfit),
         }
         Ok(())
@@ -196,7 +219,7 @@ impl Line {
         for step in script.chunks(STEP) {
             count = self.step(&mut store, count, step);
         }
-        self.sum(&store.memory);
+        self.sum(store.memory);
         Ok(())
     }
 
@@ -247,20 +270,15 @@ impl Line {
 
     fn compare(&mut self, entry: u8, arguments: [usize; 6], s: &[u8]) -> Result<(), Unfit> {
         let [left, lengths @ .., k] = arguments;
-        if k > s.len() / 4 || lengths.iter().any(|&length| length > MEMORY) {
-            return Err(Unfit);
-        }
-        let (stored, s) = s.split_at(4 * k);
+        let (mut lent, s) = memories(lengths, k, s)?;
         let (left, right) = s.split_at_checked(left).ok_or(Unfit)?;
-        let whole = memory(stored, k);
-        let mut lent = lengths.map(|length| whole[..length].to_vec());
         let [left_list, right_list, cells, terms] = &mut lent;
         self.reply(if entry == 31 {
             compare_programs(left, right, left_list, right_list, cells, terms)
         } else {
             compare_input(s, left_list, right_list, cells, terms)
         });
-        lent.iter().for_each(|memory| self.sum(memory));
+        lent.into_iter().for_each(|memory| self.sum(memory));
         Ok(())
     }
 
@@ -274,16 +292,16 @@ impl Line {
         }
     }
 
-    /// The length of a reply's line and its 64 bytes, the line end included.
     fn reply_line(&mut self, [kind, b, c, side, number, place]: [usize; 6]) {
-        let mut line = line_of(match kind % 3 {
+        self.text(line_of(match kind % 3 {
             0 => Reply::Equal { count: b },
             1 => Reply::Differs { array: b, cell: c },
-            _ => {
-                let side = [Side::Left, Side::Right, Side::Both, Side::Input][side % 4];
-                Reply::Refused { side, number: number as u8, place }
-            }
-        });
+            _ => Reply::Refused { side: side_of(side), number: number as u8, place },
+        }));
+    }
+
+    /// The length of a printed line and all of its bytes, the line end included.
+    fn text(&mut self, mut line: line::Line) {
         line.bytes[line.length] = b'\n';
         self.say(line.length + 1);
         self.say_all(line.bytes);

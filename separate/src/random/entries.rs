@@ -7,7 +7,7 @@ use crate::limits::{CELL_WORDS, LIST_WORDS, PROGRAM_BYTES, TERM_WORDS};
 use crate::read::read_tables;
 
 /// A record is no longer.
-const RECORD: usize = 65_536;
+pub(super) const RECORD: usize = 65_536;
 
 /// Pairs that programs are taken from; each is used some hundred times.
 const POOL: usize = 32;
@@ -15,11 +15,11 @@ const POOL: usize = 32;
 /// Entries with how often each is called. 0 stands for records that no entry
 /// has.
 #[rustfmt::skip]
-const WEIGHTS: [(u8, usize); 31] = [
+const WEIGHTS: [(u8, usize); 35] = [
     (0, 1), (1, 3), (2, 1), (3, 1), (4, 1), (5, 2), (6, 2), (7, 3), (8, 3), (9, 4),
     (10, 2), (11, 2), (12, 3), (13, 3), (14, 3), (15, 4), (16, 3), (17, 2),
     (18, 12), (19, 12), (20, 6), (21, 5), (22, 6), (23, 6), (24, 1), (25, 2), (26, 2), (30, 8), (31, 3), (32, 3),
-    (33, 3),
+    (33, 3), (34, 3), (35, 2), (36, 3), (37, 3),
 ];
 
 /// Words that give terms of kind 19 the mixes 0, 1, 2 …, so one bucket.
@@ -49,20 +49,23 @@ impl Iterator for Records {
             18 | 19 => self.nested(entry),
             20..=23 => self.part(entry),
             30 => self.store(),
-            31 | 32 => self.pair(entry),
-            _ => self.reply(),
+            31 | 32 | 34 => self.pair(entry),
+            33 => self.reply(),
+            35 => self.stretch(),
+            36 => self.origin(),
+            _ => self.explanation_line(),
         };
         record.truncate(RECORD);
         Some(record)
     }
 }
 
-fn record(entry: u8, arguments: [usize; 6], lent: &[u8]) -> Vec<u8> {
+pub(super) fn record(entry: u8, arguments: [usize; 6], lent: &[u8]) -> Vec<u8> {
     let arguments = arguments.map(|argument| (argument as u64).to_le_bytes());
     [&[entry], arguments.as_flattened(), lent].concat()
 }
 
-fn words(words: &[u32]) -> Vec<u8> {
+pub(super) fn words(words: &[u32]) -> Vec<u8> {
     words.iter().flat_map(|word| word.to_le_bytes()).collect()
 }
 
@@ -188,7 +191,7 @@ impl Records {
         let length = self.random.below(120);
         let mut record = self.random.bytes(length);
         if let Some(entry) = record.first_mut() {
-            *entry = *self.random.pick(&[0, 10, 18, 27, 29, 30, 31, 34, 255]);
+            *entry = *self.random.pick(&[0, 10, 18, 27, 29, 30, 31, 34, 38, 255]);
         }
         record
     }
@@ -374,13 +377,13 @@ impl Records {
         record(33, numbers, &[])
     }
 
-    /// Two programs or framed input.
+    /// Two programs, under a mask where they are explained, or framed input.
     fn pair(&mut self, entry: u8) -> Vec<u8> {
-        let (left, mut bytes) = if entry == 31 {
+        let (left, mut bytes) = if entry == 32 {
+            (0, self.random.pick(&self.pool).clone())
+        } else {
             let (left, right) = self.programs();
             (left.len(), [left, right].concat())
-        } else {
-            (0, self.random.pick(&self.pool).clone())
         };
         if self.random.chance(10) {
             bytes = self.soup();
@@ -388,25 +391,75 @@ impl Records {
         self.damage(&mut bytes);
         let left =
             if self.random.chance(90) { left.min(bytes.len()) } else { self.number(bytes.len()) };
-        let odd = [
-            0,
-            1,
-            CELL_WORDS - 1,
-            CELL_WORDS,
-            CELL_WORDS + 1,
-            LIST_WORDS - 1,
-            LIST_WORDS + 1,
-            33_000,
-        ];
-        let lengths = [LIST_WORDS, LIST_WORDS, CELL_WORDS, TERM_WORDS];
-        let lengths =
-            lengths.map(
-                |length| if self.random.chance(92) { length } else { *self.random.pick(&odd) },
-            );
-        let [one, other, cells, terms] = lengths;
-        let garbage: Vec<_> =
-            (0..self.random.below(9)).map(|_| self.random.draw() as u32).collect();
+        if entry == 34 {
+            let head = [&mask(&mut self.random).to_le_bytes()[..], &[self.side()]].concat();
+            let short = self.random.chance(2);
+            bytes =
+                if short { head[..self.random.below(4)].to_vec() } else { [head, bytes].concat() };
+        }
+        let [one, other, cells, terms] = lengths(&mut self.random, 8);
+        let garbage = any_words(&mut self.random);
         let lent = [words(&garbage), bytes].concat();
         record(entry, [left, one, other, cells, terms, garbage.len()], &lent)
+    }
+
+    /// Any number but 0 is right.
+    fn side(&mut self) -> u8 {
+        let any = self.random.byte();
+        *self.random.pick(&[0, 0, 0, 1, 1, any])
+    }
+
+    fn stretch(&mut self) -> Vec<u8> {
+        let (left, right) = self.programs();
+        let left_length =
+            if self.random.chance(90) { left.len() } else { self.number(left.len() + right.len()) };
+        let side = self.side();
+        let chosen = if side == 0 { left.len() } else { right.len() };
+        let (from, to) = (self.number(chosen), self.number(chosen));
+        let (from, to) =
+            if self.random.chance(70) { (from.min(to), from.max(to)) } else { (from, to) };
+        let arguments = [left_length, usize::from(side), from, to, 0, 0];
+        record(35, arguments, &[left, right].concat())
+    }
+
+    fn origin(&mut self) -> Vec<u8> {
+        let program = if self.random.chance(85) { self.program() } else { self.bytes() };
+        let (array, cell) = (self.small(3), self.small(6));
+        let [length, ..] = lengths(&mut self.random, 8);
+        let garbage = any_words(&mut self.random);
+        let lent = [words(&garbage), program].concat();
+        record(36, [array, cell, length, 0, 0, garbage.len()], &lent)
+    }
+
+    fn explanation_line(&mut self) -> Vec<u8> {
+        let mut numbers = std::array::from_fn(|_| self.number(2_048));
+        numbers[5] = self.small(8);
+        let bytes = if self.random.chance(80) { 16 } else { self.random.below(20) };
+        let indices = self.random.bytes(bytes);
+        record(37, numbers, &indices)
+    }
+}
+
+/// The words of each memory of a compare, each of them odd in so many of a
+/// hundred calls.
+pub(super) fn lengths(random: &mut Random, odd_ones: usize) -> [usize; 4] {
+    let odd =
+        [0, 1, CELL_WORDS - 1, CELL_WORDS, CELL_WORDS + 1, LIST_WORDS - 1, LIST_WORDS + 1, 33_000];
+    let enough = [LIST_WORDS, LIST_WORDS, CELL_WORDS, TERM_WORDS];
+    enough.map(|length| if random.chance(odd_ones) { *random.pick(&odd) } else { length })
+}
+
+/// What memory holds: zeros, or some words again and again.
+pub(super) fn any_words(random: &mut Random) -> Vec<u32> {
+    (0..random.below(9)).map(|_| random.draw() as u32).collect()
+}
+
+/// All bits, one of them, or any.
+pub(super) fn mask(random: &mut Random) -> u16 {
+    match random.below(20) {
+        0..=10 => u16::MAX,
+        11..=13 => 1 << random.below(4),
+        14 => 1 << random.below(16),
+        _ => random.draw() as u16,
     }
 }

@@ -2,6 +2,7 @@
 
 mod changes;
 mod entries;
+mod explanations;
 mod lists;
 mod pairs;
 mod programs;
@@ -10,6 +11,7 @@ mod rewrites;
 mod templates;
 
 pub use entries::Records;
+pub use explanations::Explanations;
 pub use lists::{ListPairs, Parts};
 pub use pairs::Pairs;
 

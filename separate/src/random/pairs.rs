@@ -60,7 +60,7 @@ pub fn frame(left: &[u8], right: &[u8]) -> Vec<u8> {
     [&length.to_le_bytes(), left, right].concat()
 }
 
-fn bytes_of(source: &Source) -> Vec<u8> {
+pub(super) fn bytes_of(source: &Source) -> Vec<u8> {
     encode(source).bytes
 }
 
@@ -139,7 +139,7 @@ impl Pairs {
         input
     }
 
-    fn differs(&mut self) -> Vec<u8> {
+    pub(super) fn differs(&mut self) -> Vec<u8> {
         let mut input = Vec::new();
         for _ in 0..ATTEMPTS {
             let base = self.base();
