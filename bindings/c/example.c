@@ -1,5 +1,8 @@
-/* example LEFT RIGHT: compares two program files and prints the line, as `tengmua` does; the exit status is the reply's kind. */
+/* example [--explain] LEFT RIGHT: compares two program files and prints the line, as `tengmua` does; the exit status is the reply's
+ * kind. With --explain a difference has a line for each side more: the bytes of the statement that wrote the element last and
+ * the index values, or that the element has its starting content. */
 #include <stdio.h>
+#include <string.h>
 
 #include "tengmua.h"
 
@@ -37,13 +40,25 @@ static void print_reply(tengmua_reply reply) {
     }
 }
 
+static void print_explanation(const char *side, tengmua_explanation explanation) {
+    if (explanation.kind == TENGMUA_STARTING) {
+        printf("%s starting content\n", side);
+        return;
+    }
+    printf("%s written %zu %zu", side, explanation.from, explanation.to);
+    for (size_t loop = 0; loop < explanation.count; loop++)
+        printf(" %d", explanation.indices[loop]);
+    printf("\n");
+}
+
 int main(int count, char **words) {
-    if (count != 3) {
-        fprintf(stderr, "usage: example LEFT RIGHT\n");
+    int explain = count == 4 && strcmp(words[1], "--explain") == 0;
+    if (count != 3 && !explain) {
+        fprintf(stderr, "usage: example [--explain] LEFT RIGHT\n");
         return 3;
     }
-    long left_length = read_file(words[1], left);
-    long right_length = read_file(words[2], right);
+    long left_length = read_file(words[count - 2], left);
+    long right_length = read_file(words[count - 1], right);
     if (left_length < 0 || right_length < 0)
         return 3;
     tengmua_reply reply = tengmua_compare_programs(
@@ -51,5 +66,10 @@ int main(int count, char **words) {
         left_list, TENGMUA_LIST_WORDS, right_list, TENGMUA_LIST_WORDS,
         cells, TENGMUA_CELL_WORDS, terms, TENGMUA_TERM_WORDS);
     print_reply(reply);
+    for (size_t side = 0; explain && reply.kind == TENGMUA_DIFFERS && side < 2; side++)
+        print_explanation(side == TENGMUA_LEFT ? "left" : "right", tengmua_explain(
+            left, (size_t)left_length, right, (size_t)right_length, TENGMUA_ALL, side,
+            left_list, TENGMUA_LIST_WORDS, right_list, TENGMUA_LIST_WORDS,
+            cells, TENGMUA_CELL_WORDS, terms, TENGMUA_TERM_WORDS));
     return (int)reply.kind;
 }

@@ -18,8 +18,11 @@ tengmua_reply twin_compare_lists(const uint32_t *, size_t, const uint32_t *, siz
                                  uint32_t *, size_t);
 tengmua_reply twin_unroll(const uint8_t *, size_t, uint32_t *, size_t);
 tengmua_reply twin_check_list(const uint32_t *, size_t);
+tengmua_explanation twin_explain(const uint8_t *, size_t, const uint8_t *, size_t, uint16_t, size_t, uint32_t *, size_t,
+                                 uint32_t *, size_t, uint32_t *, size_t, uint32_t *, size_t);
 void twin_seed(uint64_t seed);
 void twin_programs(uint8_t *left, uint8_t *right, size_t room, size_t *lengths);
+void twin_differing(uint8_t *left, uint8_t *right, size_t room, size_t *lengths);
 void twin_lists(uint32_t *left, uint32_t *right, size_t room, size_t *lengths);
 
 #define MOST_BYTES 20000
@@ -129,7 +132,7 @@ static int same_reply(tengmua_reply one, tengmua_reply other) {
 }
 
 /* How often each kind of reply came, for the report: a run that only refuses shows. */
-static size_t kinds[4][3];
+static size_t kinds[5][3];
 
 static void note(int entry, tengmua_reply ours, tengmua_reply theirs, int memory, size_t number) {
     static const char *const names[] = {"compare_programs", "compare_lists", "unroll", "check_list"};
@@ -143,17 +146,43 @@ static void note(int entry, tengmua_reply ours, tengmua_reply theirs, int memory
     kinds[entry][ours.kind]++;
 }
 
+static int same_explanation(const tengmua_explanation *one, const tengmua_explanation *other) {
+    return one->kind == other->kind && one->side == other->side && one->question == other->question &&
+           one->place == other->place && one->array == other->array && one->cell == other->cell && one->from == other->from &&
+           one->to == other->to && one->count == other->count &&
+           memcmp(one->indices, other->indices, sizeof one->indices) == 0;
+}
+
+static void print_explanation(const char *who, const tengmua_explanation *e) {
+    printf("%s %zu, refusal %zu %zu %zu, element %zu %zu, bytes %zu %zu, %zu indices", who, e->kind, e->side, e->question,
+           e->place, e->array, e->cell, e->from, e->to, e->count);
+    for (int loop = 0; loop < TENGMUA_LOOPS; loop++)
+        printf(" %d", e->indices[loop]);
+    printf("\n");
+}
+
+static void note_explanation(tengmua_explanation ours, tengmua_explanation theirs, int memory, size_t number) {
+    if (!same_explanation(&ours, &theirs) || !memory) {
+        printf("explain, call %zu, memory %s:\n", number, memory ? "alike" : "not alike");
+        print_explanation("ours", &ours);
+        print_explanation("separate", &theirs);
+        exit(1);
+    }
+    must(ours.kind < 3, "no such kind");
+    kinds[4][ours.kind]++;
+}
+
 static uint8_t left_bytes[MOST_BYTES], right_bytes[MOST_BYTES];
 static uint32_t left_words[MOST_WORDS], right_words[MOST_WORDS];
 static size_t lengths[2];
 
 static uint8_t small_byte(void) { return (uint8_t)(below(4) ? below(20) : draw()); }
 
-/* Random bytes; or such behind a right mark and version; or two programs, often with a few bytes changed. */
-static void make_programs(void) {
-    size_t way = below(4);
+/* Four ways: random bytes; such behind a right mark and version; two programs of the source with a few bytes changed, or as they
+ * are. */
+static void make_programs_from(void (*source)(uint8_t *, uint8_t *, size_t, size_t *), size_t way) {
     if (way >= 2) {
-        twin_programs(left_bytes, right_bytes, MOST_BYTES, lengths);
+        source(left_bytes, right_bytes, MOST_BYTES, lengths);
         for (size_t k = way == 2 ? below(6) : 0; k > 0; k--) {
             uint8_t *bytes = below(2) ? left_bytes : right_bytes;
             size_t length = lengths[bytes == right_bytes];
@@ -171,6 +200,8 @@ static void make_programs(void) {
             memcpy(bytes, "ALP\1", 4);
     }
 }
+
+static void make_programs(void) { make_programs_from(twin_programs, below(4)); }
 
 static uint32_t small_word(void) { return (uint32_t)(below(4) ? below(24) : draw()); }
 
@@ -247,6 +278,25 @@ static void call_check(size_t number) {
     note(3, ours, theirs, memory, number);
 }
 
+static void call_explain(size_t number) {
+    make_programs_from(twin_differing, below(3) ? 3 : below(4));
+    slice left = copied(left_bytes, lengths[0]), right = copied(right_bytes, lengths[1]);
+    twins a = garbage(TENGMUA_LIST_WORDS), b = garbage(TENGMUA_LIST_WORDS), c = garbage(TENGMUA_CELL_WORDS),
+          d = garbage(TENGMUA_TERM_WORDS);
+    uint16_t mask = any_mask();
+    size_t side = below(8) ? below(2) : (size_t)draw(); /* any number but 0 is right */
+    tengmua_explanation ours =
+        tengmua_explain(left.data, left.bytes, right.data, right.bytes, mask, side, a.ours.data, a.words, b.ours.data,
+                        b.words, c.ours.data, c.words, d.ours.data, d.words);
+    tengmua_explanation theirs =
+        twin_explain(left.data, left.bytes, right.data, right.bytes, mask, side, a.theirs.data, a.words, b.theirs.data,
+                     b.words, c.theirs.data, c.words, d.theirs.data, d.words);
+    int memory = alike(a) & alike(b) & alike(c) & alike(d);
+    give_back(left);
+    give_back(right);
+    note_explanation(ours, theirs, memory, number);
+}
+
 int main(int count, char **words) {
     if (count != 3) {
         fprintf(stderr, "usage: fuzz COUNT SEED\n");
@@ -261,10 +311,12 @@ int main(int count, char **words) {
         call_lists(k);
         call_unroll(k);
         call_check(k);
+        call_explain(k);
     }
     printf("fuzz %zu, seed %llu: the same replies and memory (equal, differs, refused: programs %zu %zu %zu, lists %zu %zu "
-           "%zu, unroll %zu %zu %zu, check %zu %zu %zu)\n",
+           "%zu, unroll %zu %zu %zu, check %zu %zu %zu; written, starting content, refused: explain %zu %zu %zu)\n",
            calls, (unsigned long long)seed, kinds[0][0], kinds[0][1], kinds[0][2], kinds[1][0], kinds[1][1], kinds[1][2],
-           kinds[2][0], kinds[2][1], kinds[2][2], kinds[3][0], kinds[3][1], kinds[3][2]);
+           kinds[2][0], kinds[2][1], kinds[2][2], kinds[3][0], kinds[3][1], kinds[3][2], kinds[4][0],
+           kinds[4][1], kinds[4][2]);
     return 0;
 }

@@ -64,6 +64,42 @@ tengmua_reply tengmua_unroll(const uint8_t *program, size_t program_length,
 /* Is this the layout of an allowed list (26), in a slice that is long enough (25)? */
 tengmua_reply tengmua_check_list(const uint32_t *list, size_t list_length);
 
+/* Kinds of an explanation; the third is TENGMUA_REFUSED. */
+enum tengmua_origin { TENGMUA_WRITTEN = 0, TENGMUA_STARTING = 1 };
+
+/* Loops that can enclose a statement, at most. */
+#define TENGMUA_LOOPS 8
+
+/* kind       has
+ * WRITTEN    array and cell of the element; from and to: the bytes of the chosen program, from one place up to and without the
+ *            other, that hold the statement which wrote the element last; count: the loops around it; indices: their values in
+ *            that update, outermost first
+ * STARTING   array and cell of the element, which that program never wrote
+ * REFUSED    side, question (1..27) and place, as of a reply; 27: there is no difference to explain
+ * The numbers that a kind does not have are 0, and so are the indices beyond the count. */
+typedef struct {
+    size_t kind;
+    size_t side;
+    size_t question;
+    size_t place;
+    size_t array;
+    size_t cell;
+    size_t from;
+    size_t to;
+    size_t count;
+    int16_t indices[TENGMUA_LOOPS];
+} tengmua_explanation;
+
+/* Explains the first element that differs, as tengmua_compare_programs finds it with the same mask, by one of the two programs:
+ * the left where `side` is TENGMUA_LEFT, otherwise the right. Work memory as there. */
+tengmua_explanation tengmua_explain(const uint8_t *left, size_t left_length,
+                                    const uint8_t *right, size_t right_length,
+                                    uint16_t mask, size_t side,
+                                    uint32_t *left_list, size_t left_list_length,
+                                    uint32_t *right_list, size_t right_list_length,
+                                    uint32_t *cells, size_t cells_length,
+                                    uint32_t *terms, size_t terms_length);
+
 #ifdef __cplusplus
 }
 #endif

@@ -1,4 +1,4 @@
-/* A library that is wrong in one thing (FAULT 1 to 5), in place of libcabi.a: the harness must find each, or it could not fail.
+/* A library that is wrong in one thing (FAULT 1 to 9), in place of libcabi.a: the harness must find each, or it could not fail.
  * Without a fault (0) it is the separately written checker, and must pass. */
 #include <string.h>
 
@@ -10,6 +10,8 @@ tengmua_reply twin_compare_lists(const uint32_t *, size_t, const uint32_t *, siz
                                  uint32_t *, size_t);
 tengmua_reply twin_unroll(const uint8_t *, size_t, uint32_t *, size_t);
 tengmua_reply twin_check_list(const uint32_t *, size_t);
+tengmua_explanation twin_explain(const uint8_t *, size_t, const uint8_t *, size_t, uint16_t, size_t, uint32_t *, size_t,
+                                 uint32_t *, size_t, uint32_t *, size_t, uint32_t *, size_t);
 
 tengmua_reply tengmua_compare_programs(const uint8_t *left, size_t left_length, const uint8_t *right, size_t right_length,
                                        uint16_t mask, uint32_t *left_list, size_t left_list_length, uint32_t *right_list,
@@ -45,4 +47,24 @@ tengmua_reply tengmua_check_list(const uint32_t *list, size_t list_length) {
     if (FAULT == 5)
         seen = list[-1]; /* and one before it */
     return twin_check_list(list, list_length);
+}
+
+tengmua_explanation tengmua_explain(const uint8_t *left, size_t left_length, const uint8_t *right, size_t right_length,
+                                    uint16_t mask, size_t side, uint32_t *left_list, size_t left_list_length,
+                                    uint32_t *right_list, size_t right_list_length, uint32_t *cells, size_t cells_length,
+                                    uint32_t *terms, size_t terms_length) {
+    if (FAULT == 6)
+        side = !side; /* the other side's explanation */
+    tengmua_explanation explanation =
+        twin_explain(left, left_length, right, right_length, mask, side, left_list, left_list_length, right_list,
+                     right_list_length, cells, cells_length, terms, terms_length);
+    if (FAULT == 7 && explanation.kind != TENGMUA_REFUSED) {
+        tengmua_explanation nothing = {.kind = TENGMUA_REFUSED, .side = TENGMUA_BOTH, .question = 27};
+        explanation = nothing; /* nothing to explain, where there is a difference */
+    }
+    if (FAULT == 8 && explanation.question != 25)
+        right_list[0] = 1; /* work memory is not all zeros */
+    if (FAULT == 9 && explanation.count < TENGMUA_LOOPS)
+        explanation.indices[explanation.count] = 1; /* a value beyond the count */
+    return explanation;
 }

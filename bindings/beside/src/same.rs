@@ -1,7 +1,9 @@
 //! Do two checkers reply the same and leave the same in lent memory?
 
+use std::fmt::Display;
+
 use separate::random::Random;
-use tengmua::{Refusal, Reply, Side};
+use tengmua::{Chosen, Explanation, Refusal, Reply, Side, Written};
 
 use crate::memory::{is_zero, lengths, Garbage, ENOUGH};
 
@@ -11,6 +13,14 @@ pub trait Checker {
     fn lists(&self, left: &[u32], right: &[u32], mask: u16, work: [&mut [u32]; 2]) -> Reply;
     fn unroll(&self, program: &[u8], list: &mut [u32]) -> Reply;
     fn check(&self, list: &[u32]) -> Reply;
+    fn explain<'a>(
+        &self,
+        left: &'a [u8],
+        right: &'a [u8],
+        mask: u16,
+        chosen: Chosen,
+        work: [&mut [u32]; 4],
+    ) -> Explanation<'a>;
 }
 
 /// The proved checker, through the static library.
@@ -46,6 +56,17 @@ impl Checker for Ours {
     fn check(&self, list: &[u32]) -> Reply {
         counted(tengmua::check_list(list).map(|()| 0))
     }
+
+    fn explain<'a>(
+        &self,
+        left: &'a [u8],
+        right: &'a [u8],
+        mask: u16,
+        chosen: Chosen,
+        [a, b, c, d]: [&mut [u32]; 4],
+    ) -> Explanation<'a> {
+        tengmua::explain(left, right, mask, chosen, a, b, c, d)
+    }
 }
 
 fn side(side: separate::Side) -> Side {
@@ -75,6 +96,26 @@ fn answer(answer: Result<usize, separate::Refusal>) -> Reply {
     }
 }
 
+/// The bytes are a part of what was lent.
+fn explanation<'a>(
+    explanation: separate::Explanation,
+    left: &'a [u8],
+    right: &'a [u8],
+    chosen: separate::Chosen,
+) -> Explanation<'a> {
+    match explanation {
+        separate::Explanation::Written { array, cell, writer } => {
+            let separate::explain::Writer { from, to, count, indices } = writer;
+            let bytes = separate::stretch(left, right, chosen, from, to);
+            Explanation::Written(Written { array, cell, from, bytes, count, indices })
+        }
+        separate::Explanation::Starting { array, cell } => Explanation::Starting { array, cell },
+        separate::Explanation::Refused { side: one, number, place } => {
+            Explanation::Refused(Refusal { side: side(one), question: number, place })
+        }
+    }
+}
+
 impl Checker for Separate {
     fn programs(&self, left: &[u8], right: &[u8], mask: u16, work: [&mut [u32]; 4]) -> Reply {
         let [left_list, right_list, cells, terms] = work;
@@ -99,6 +140,22 @@ impl Checker for Separate {
 
     fn check(&self, list: &[u32]) -> Reply {
         answer(separate::check_list(list).map(|()| 0))
+    }
+
+    fn explain<'a>(
+        &self,
+        left: &'a [u8],
+        right: &'a [u8],
+        mask: u16,
+        chosen: Chosen,
+        [a, b, c, d]: [&mut [u32]; 4],
+    ) -> Explanation<'a> {
+        let chosen = match chosen {
+            Chosen::Left => separate::Chosen::Left,
+            Chosen::Right => separate::Chosen::Right,
+        };
+        let explained = separate::explain(left, right, mask, chosen, a, b, c, d);
+        explanation(explained, left, right, chosen)
     }
 }
 
@@ -135,7 +192,7 @@ impl<A: Checker, B: Checker> Beside<A, B> {
         let mut ours = before.clone();
         let reply =
             self.one.programs(left, right, mask, ours.each_mut().map(|slice| &mut slice[..]));
-        left_as_promised(reply, &before, &ours)?;
+        left_as_promised(is_short(reply), &before, &ours)?;
         let mut theirs = before;
         let other =
             self.other.programs(left, right, mask, theirs.each_mut().map(|slice| &mut slice[..]));
@@ -148,13 +205,33 @@ impl<A: Checker, B: Checker> Beside<A, B> {
         let before = self.lent([ENOUGH[2], ENOUGH[3]]);
         let mut ours = before.clone();
         let reply = self.one.lists(left, right, mask, ours.each_mut().map(|slice| &mut slice[..]));
-        left_as_promised(reply, &before, &ours)?;
+        left_as_promised(is_short(reply), &before, &ours)?;
         let mut theirs = before;
         let other =
             self.other.lists(left, right, mask, theirs.each_mut().map(|slice| &mut slice[..]));
         same(reply, other)?;
         same_words(&ours, &theirs)?;
         Ok(reply)
+    }
+
+    pub fn explain<'a>(
+        &mut self,
+        left: &'a [u8],
+        right: &'a [u8],
+        mask: u16,
+        chosen: Chosen,
+    ) -> Result<Explanation<'a>, Difference> {
+        let before = self.lent(ENOUGH);
+        let mut ours = before.clone();
+        let work = ours.each_mut().map(|slice| &mut slice[..]);
+        let explanation = self.one.explain(left, right, mask, chosen, work);
+        let short = matches!(explanation, Explanation::Refused(Refusal { question: 25, .. }));
+        left_as_promised(short, &before, &ours)?;
+        let mut theirs = before;
+        let work = theirs.each_mut().map(|slice| &mut slice[..]);
+        same(explanation, self.other.explain(left, right, mask, chosen, work))?;
+        same_words(&ours, &theirs)?;
+        Ok(explanation)
     }
 
     /// The whole list is compared, the zeros behind it too.
@@ -180,20 +257,20 @@ fn is_short(reply: Reply) -> bool {
 
 /// Under 25 nothing is touched; otherwise all work memory is zeros.
 fn left_as_promised(
-    reply: Reply,
+    short: bool,
     before: &[Vec<u32>],
     after: &[Vec<u32>],
 ) -> Result<(), Difference> {
-    if is_short(reply) {
+    if short {
         return same_words(before, after).map_err(|words| format!("touched under 25: {words}"));
     }
     match after.iter().position(|slice| !is_zero(slice)) {
-        Some(slice) => Err(format!("{reply}: slice {slice} of work memory is not zeros")),
+        Some(slice) => Err(format!("slice {slice} of work memory is not zeros")),
         None => Ok(()),
     }
 }
 
-fn same(ours: Reply, theirs: Reply) -> Result<(), Difference> {
+fn same<T: PartialEq + Display>(ours: T, theirs: T) -> Result<(), Difference> {
     if ours == theirs {
         Ok(())
     } else {

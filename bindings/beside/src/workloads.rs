@@ -2,6 +2,8 @@
 
 use separate::notation::assemble;
 use separate::random::Pairs;
+use separate::{Reply, Work};
+use tengmua::Chosen;
 
 /// Two programs that are compared.
 pub struct Pair {
@@ -39,14 +41,61 @@ pub fn all(seed: u64) -> Vec<Workload> {
 
 /// Those of one pair.
 pub fn single() -> Vec<Workload> {
-    vec![
-        workload("Jacobi 16x2, skewed", example!("jacobi"), example!("jacobi-tiled")),
-        workload("Jacobi 128x7, skewed", &jacobi(128, 7), &jacobi_skewed(128, 7)),
-        workload("blur 22x22, in 4x4 tiles", example!("blur"), example!("blur-tiled")),
-        workload("product 11x11x11, ijk and kij", &product("ijk"), &product("kij")),
-        workload("65,536 rounds, nested and flat", ROUNDS_NESTED, ROUNDS_FLAT),
-        workload("4,096 terms, last first", &terms(1_024, false), &terms(1_024, true)),
+    texts().iter().map(|(name, left, right)| workload(name, left, right)).collect()
+}
+
+fn texts() -> [(&'static str, String, String); 6] {
+    [
+        ("Jacobi 16x2, skewed", example!("jacobi").into(), example!("jacobi-tiled").into()),
+        ("Jacobi 128x7, skewed", jacobi(128, 7), jacobi_skewed(128, 7)),
+        ("blur 22x22, in 4x4 tiles", example!("blur").into(), example!("blur-tiled").into()),
+        ("product 11x11x11, ijk and kij", product("ijk"), product("kij")),
+        ("65,536 rounds, nested and flat", ROUNDS_NESTED.into(), ROUNDS_FLAT.into()),
+        ("4,096 terms, last first", terms(1_024, false), terms(1_024, true)),
     ]
+}
+
+/// Pairs that differ, and the program whose explanation is timed.
+pub struct Explained {
+    pub workload: Workload,
+    pub chosen: Chosen,
+}
+
+/// What is changed in the right program of each single pair, in their order: so that no pair gets too many terms.
+const CHANGES: [(&str, &str); 6] = [
+    ("const 33333", "const 33334"),
+    ("= B[c - 2*t - 1]", "= A[c - 2*t - 1]"),
+    ("B[y, x] =", "B[x, y] ="),
+    ("fma(A[i, k], B[k, j]", "fma(B[k, j], A[i, k]"),
+    ("array A out [1]", "array A out [1] A[0] = const 1"),
+    ("f(i + 1024)", "f(i + 1023)"),
+];
+
+/// The single pairs, each with a change on the right; random pairs that differ; and the worst that there is to explain:
+/// rounds without updates, which only the run goes through, beside nearly nothing.
+pub fn explained(seed: u64) -> Vec<Explained> {
+    let mut workloads: Vec<_> = texts()
+        .iter()
+        .zip(CHANGES)
+        .map(|((name, left, right), (from, to))| workload(name, left, &right.replace(from, to)))
+        .collect();
+    workloads.push(differing(1_000, seed));
+    workloads.push(workload("65,536 rounds beside none", "array A out [1]", &rounds_and_update()));
+    let explained = |workload| Explained { workload, chosen: Chosen::Right };
+    workloads.into_iter().map(explained).collect()
+}
+
+fn rounds_and_update() -> String {
+    format!("{ROUNDS_NESTED} A[0] = const 1")
+}
+
+/// Random pairs, of which those that differ are taken.
+fn differing(count: usize, seed: u64) -> Workload {
+    let mut work = Work::default();
+    let mut differ =
+        |pair: &Pair| matches!(work.programs(&pair.left, &pair.right), Reply::Differs { .. });
+    let pairs = Pairs::new(seed).filter_map(|input| split(&input)).filter(|pair| differ(pair));
+    Workload { name: format!("{count} mixed pairs"), pairs: pairs.take(count).collect() }
 }
 
 fn jacobi(points: i32, steps: i32) -> String {

@@ -1,9 +1,9 @@
 //! The pairs that are timed are what their names say.
 
-use beside::workloads::{all, growths, Pair};
+use beside::workloads::{all, explained, growths, Explained, Pair};
 use separate::list::{code, decode};
 use separate::{limits::LIST_WORDS, notation::assemble};
-use tengmua::{Refusal, Reply, Work, ALL};
+use tengmua::{Explanation, Refusal, Reply, Work, ALL};
 
 fn list_of(program: &[u8]) -> Vec<u32> {
     let mut list = vec![0; LIST_WORDS];
@@ -22,6 +22,23 @@ fn each_single_pair_is_equal() {
         sizes.push(decode(&list_of(left)).expect("a list").updates().count());
     }
     assert_eq!(sizes, [56, 1_764, 400, 1_331, 0, 2_048]);
+}
+
+/// Each differs; of one pair the chosen program wrote the element, and in the worst it is the one with the rounds.
+#[test]
+fn each_explained_pair_differs() {
+    let mut work = Work::default();
+    let workloads = explained(1);
+    for Explained { workload, chosen } in &workloads {
+        for Pair { left, right } in &workload.pairs {
+            let explanation = work.explain(left, right, ALL, *chosen);
+            let written = matches!(explanation, Explanation::Written(_));
+            assert!(written || workload.pairs.len() > 1, "{}: {explanation}", workload.name);
+            assert!(!matches!(explanation, Explanation::Refused(_)), "{}", workload.name);
+        }
+    }
+    let sizes: Vec<_> = workloads.iter().map(|explained| explained.workload.pairs.len()).collect();
+    assert_eq!(sizes, [1, 1, 1, 1, 1, 1, 1_000, 1]);
 }
 
 #[test]

@@ -2,7 +2,7 @@
 
 use beside::same::{Beside, Checker, Separate};
 use separate::notation::assemble;
-use tengmua::{Refusal, Reply, LIST_WORDS};
+use tengmua::{Chosen, Explanation, Refusal, Reply, Side, Written, LIST_WORDS};
 
 /// What the wrong checker does.
 #[derive(Clone, Copy, PartialEq)]
@@ -19,6 +19,16 @@ enum Wrong {
     ClearsUnderShort,
     /// A word behind the list.
     LeavesWord,
+    /// The explanation is the other program's.
+    ExplainsTheOther,
+    /// 27 where there is a difference.
+    SeesNoDifference,
+    /// One byte less of the statement.
+    CutsTheStatement,
+    /// One index value is another.
+    ChangesAnIndex,
+    LeavesExplainWork,
+    ClearsUnderShortExplain,
 }
 
 struct Checked(Wrong);
@@ -89,12 +99,58 @@ impl Checker for Checked {
             reply
         }
     }
+
+    fn explain<'a>(
+        &self,
+        left: &'a [u8],
+        right: &'a [u8],
+        mask: u16,
+        chosen: Chosen,
+        [a, b, c, d]: [&mut [u32]; 4],
+    ) -> Explanation<'a> {
+        let asked = if self.0 == Wrong::ExplainsTheOther { turned(chosen) } else { chosen };
+        let work = [&mut *a, &mut *b, &mut *c, &mut *d];
+        let explanation = Separate.explain(left, right, mask, asked, work);
+        let short = matches!(explanation, Explanation::Refused(Refusal { question: 25, .. }));
+        if self.0 == Wrong::ClearsUnderShortExplain && short {
+            [a, b, c, d].into_iter().for_each(|slice| slice.fill(0));
+        } else if self.0 == Wrong::LeavesExplainWork {
+            spoil(b);
+        }
+        changed(self.0, explanation)
+    }
+}
+
+fn turned(chosen: Chosen) -> Chosen {
+    match chosen {
+        Chosen::Left => Chosen::Right,
+        Chosen::Right => Chosen::Left,
+    }
+}
+
+/// The explanation with the one thing that is wrong.
+fn changed<'a>(wrong: Wrong, explanation: Explanation<'a>) -> Explanation<'a> {
+    let nothing = Refusal { side: Side::Both, question: 27, place: 0 };
+    match (wrong, explanation) {
+        (Wrong::SeesNoDifference, Explanation::Written(_)) => Explanation::Refused(nothing),
+        (Wrong::CutsTheStatement, Explanation::Written(written)) => {
+            let bytes = &written.bytes[..written.bytes.len() - 1];
+            Explanation::Written(Written { bytes, ..written })
+        }
+        (Wrong::ChangesAnIndex, Explanation::Written(mut written)) => {
+            written.indices[0] += 1;
+            Explanation::Written(written)
+        }
+        (_, explanation) => explanation,
+    }
 }
 
 /// Does some of many calls of every entry find a difference?
 fn found(wrong: Wrong) -> bool {
     let mut beside = Beside::new(Checked(wrong), Separate, 1);
     let program = assemble("array A in [2] array B out [2] B[0] = A[1]").expect("a program");
+    let text = "array A in [2] array B out [2] for i = 1 to 0 step -1 { B[0] = A[i] }";
+    let longer = assemble(text).expect("a program");
     let mut list = vec![0; LIST_WORDS];
     separate::unroll(&program, &mut list).expect("a list");
     (0..300).any(|_| {
@@ -102,6 +158,7 @@ fn found(wrong: Wrong) -> bool {
             || beside.lists(&list, &list, tengmua::ALL).is_err()
             || beside.unroll(&program).is_err()
             || beside.check(&list).is_err()
+            || beside.explain(&program, &longer, tengmua::ALL, Chosen::Right).is_err()
     })
 }
 
@@ -118,6 +175,12 @@ fn each_wrong_checker_is_found_out() {
         LeavesListWork,
         ClearsUnderShort,
         LeavesWord,
+        ExplainsTheOther,
+        SeesNoDifference,
+        CutsTheStatement,
+        ChangesAnIndex,
+        LeavesExplainWork,
+        ClearsUnderShortExplain,
     ]
     .into_iter()
     .enumerate()

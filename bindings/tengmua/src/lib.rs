@@ -1,6 +1,6 @@
 //! Safe calls of the proved loop pair checker (`crates/cabi`).
 //!
-//! The four functions over lent slices answer every input; what they reply and leave in the slices is proved. [`Work`] owns
+//! The five functions over lent slices answer every input; what they reply and leave in the slices is proved. [`Work`] owns
 //! the memory that a compare needs.
 //!
 //! ```
@@ -10,6 +10,22 @@
 //! backwards[16..22].copy_from_slice(&[1, 0, 0, 0, 0xFF, 0xFF]);
 //! let reply = tengmua::Work::default().programs(forwards, &backwards, tengmua::ALL);
 //! assert_eq!(reply.to_string(), "equal 2");
+//! ```
+//!
+//! Where two programs differ, [`explain`] gives the part of one's own bytes that wrote the element last:
+//!
+//! ```
+//! use tengmua::{Chosen, Explanation, Work, ALL};
+//! # let forwards = b"ALP\x01\0\0\x02\0\x01\x02\0\x01\x01\x02\0\x02\0\0\x01\0\x01\0\x01\x01\0\0\x01\x10\0\0\0\x01\0\0";
+//! // One round less: the second element is not copied.
+//! let mut shorter = *forwards;
+//! shorter[18] = 0;
+//! let mut work = Work::default();
+//! assert_eq!(work.programs(forwards, &shorter, ALL).to_string(), "differs 1 1");
+//! let Explanation::Written(written) = work.explain(forwards, &shorter, ALL, Chosen::Left) else { panic!() };
+//! assert_eq!((written.bytes, written.indices()), (&forwards[22..32], &[1][..]));
+//! let right = work.explain(forwards, &shorter, ALL, Chosen::Right);
+//! assert_eq!(right, Explanation::Starting { array: 1, cell: 1 });
 //! ```
 
 mod raw;
@@ -23,6 +39,9 @@ pub const TERM_WORDS: usize = 32_768;
 
 /// The mask that compares every out and inout array.
 pub const ALL: u16 = u16::MAX;
+
+/// Loops that can enclose a statement, at most.
+pub const LOOPS: usize = 8;
 
 #[derive(Clone, Copy, Debug, PartialEq, Eq)]
 pub enum Side {
@@ -46,6 +65,47 @@ pub enum Reply {
     Equal(usize),
     /// Array and cell of the first difference.
     Differs(usize, usize),
+    Refused(Refusal),
+}
+
+/// The program that a difference is explained by.
+#[derive(Clone, Copy, Debug, PartialEq, Eq)]
+pub enum Chosen {
+    Left,
+    Right,
+}
+
+/// The update that wrote an element last.
+#[derive(Clone, Copy, Debug, PartialEq, Eq)]
+pub struct Written<'a> {
+    pub array: usize,
+    pub cell: usize,
+    /// Where the statement begins in its program.
+    pub from: usize,
+    /// The statement's own bytes in its program, from the code byte to the end of the expression.
+    pub bytes: &'a [u8],
+    /// How many loops enclose it, and their index values, outermost first; 0 beyond the count.
+    pub count: usize,
+    pub indices: [i16; LOOPS],
+}
+
+impl Written<'_> {
+    /// The values alone.
+    pub fn indices(&self) -> &[i16] {
+        &self.indices[..self.count]
+    }
+}
+
+/// Why an element differs, as far as one of the programs has to do with it.
+#[derive(Clone, Copy, Debug, PartialEq, Eq)]
+pub enum Explanation<'a> {
+    Written(Written<'a>),
+    /// That program never wrote the element.
+    Starting {
+        array: usize,
+        cell: usize,
+    },
+    /// As of a reply; 27 where there is no difference.
     Refused(Refusal),
 }
 
@@ -73,6 +133,21 @@ impl fmt::Display for Reply {
             Reply::Equal(count) => write!(out, "equal {count}"),
             Reply::Differs(array, cell) => write!(out, "differs {array} {cell}"),
             Reply::Refused(refusal) => refusal.fmt(out),
+        }
+    }
+}
+
+/// The line of an explanation, without its end.
+impl fmt::Display for Explanation<'_> {
+    fn fmt(&self, out: &mut fmt::Formatter) -> fmt::Result {
+        match self {
+            Explanation::Written(written) => {
+                let Written { array, cell, from, bytes, .. } = written;
+                write!(out, "written {array} {cell} {from} {}", from + bytes.len())?;
+                written.indices().iter().try_for_each(|index| write!(out, " {index}"))
+            }
+            Explanation::Starting { array, cell } => write!(out, "starting {array} {cell}"),
+            Explanation::Refused(refusal) => refusal.fmt(out),
         }
     }
 }
@@ -113,6 +188,27 @@ pub fn check_list(list: &[u32]) -> Result<(), Refusal> {
     raw::check_list(list).counted().map(|_| ())
 }
 
+/// Explains the first element that differs under `mask` by one of the programs. Work memory as in [`compare_programs`], whose
+/// refusals stay as they are.
+#[allow(clippy::too_many_arguments)]
+pub fn explain<'a>(
+    left: &'a [u8],
+    right: &'a [u8],
+    mask: u16,
+    chosen: Chosen,
+    left_list: &mut [u32],
+    right_list: &mut [u32],
+    cells: &mut [u32],
+    terms: &mut [u32],
+) -> Explanation<'a> {
+    let program = match chosen {
+        Chosen::Left => left,
+        Chosen::Right => right,
+    };
+    raw::explain(left, right, mask, chosen, [left_list, right_list, cells, terms])
+        .explanation(program)
+}
+
 /// Memory for compares, used again from call to call.
 pub struct Work {
     left_list: Vec<u32>,
@@ -136,6 +232,17 @@ impl Work {
     pub fn programs(&mut self, left: &[u8], right: &[u8], mask: u16) -> Reply {
         let Work { left_list, right_list, cells, terms } = self;
         compare_programs(left, right, mask, left_list, right_list, cells, terms)
+    }
+
+    pub fn explain<'a>(
+        &mut self,
+        left: &'a [u8],
+        right: &'a [u8],
+        mask: u16,
+        chosen: Chosen,
+    ) -> Explanation<'a> {
+        let Work { left_list, right_list, cells, terms } = self;
+        explain(left, right, mask, chosen, left_list, right_list, cells, terms)
     }
 
     pub fn lists(&mut self, left: &[u32], right: &[u32], mask: u16) -> Reply {

@@ -1,8 +1,8 @@
 //! Known pairs through the wrapper, and memory of any length.
 
 use tengmua::{
-    check_list, compare_lists, compare_programs, unroll, Refusal, Reply, Side, Work, ALL,
-    CELL_WORDS, LIST_WORDS, TERM_WORDS,
+    check_list, compare_lists, compare_programs, explain, unroll, Chosen, Explanation, Refusal,
+    Reply, Side, Work, ALL, CELL_WORDS, LIST_WORDS, TERM_WORDS,
 };
 
 const SHORT: Refusal = Refusal { side: Side::Both, question: 25, place: 0 };
@@ -32,6 +32,45 @@ fn the_mask_chooses_arrays() {
     assert_eq!(reply(0), Reply::Equal(0));
 }
 
+const BOTH: [Chosen; 2] = [Chosen::Left, Chosen::Right];
+
+/// Jacobi's second variant runs ahead: the copy back that wrote the element is explained on each side.
+#[test]
+fn a_difference_is_explained() {
+    let mut work = Work::default();
+    let (left, right) = (example!("jacobi"), example!("jacobi-wrong-skew"));
+    for (chosen, program) in BOTH.into_iter().zip([&left[..], right]) {
+        let Explanation::Written(written) = work.explain(left, right, ALL, chosen) else {
+            panic!("both sides write A[2]");
+        };
+        assert_eq!((written.array, written.cell, written.bytes[0]), (0, 2, 1));
+        // The program's own bytes, and no copy of them.
+        assert_eq!(written.bytes.as_ptr(), program[written.from..].as_ptr());
+        assert_eq!(written.indices().len(), written.count);
+    }
+    let line = |chosen| Work::default().explain(left, right, ALL, chosen).to_string();
+    assert_eq!(BOTH.map(line), ["written 0 2 78 90 1 2", "written 0 2 112 124 5 1"]);
+}
+
+#[test]
+fn starting_content_and_refusals() {
+    let mut work = Work::default();
+    let copy: &[u8] = example!("copy");
+    let mut shorter = copy.to_vec();
+    shorter[18] = 0;
+    let starting = Explanation::Starting { array: 1, cell: 1 };
+    assert_eq!(work.explain(copy, &shorter, ALL, Chosen::Right), starting);
+    assert_eq!(work.explain(&shorter, copy, ALL, Chosen::Left), starting);
+    let mut line = |left: &[u8], right: &[u8], mask| {
+        BOTH.map(|chosen| work.explain(left, right, mask, chosen).to_string())
+    };
+    assert_eq!(line(copy, &shorter, ALL), ["written 1 1 22 32 1", "starting 1 1"]);
+    assert_eq!(line(copy, &shorter, 1), ["refused both 27 0"; 2]);
+    assert_eq!(line(copy, example!("copy-reversed"), ALL), ["refused both 27 0"; 2]);
+    assert_eq!(line(copy, example!("outside"), ALL), ["refused right 16 22"; 2]);
+    assert_eq!(line(&[], copy, ALL), ["refused left 3 0"; 2]);
+}
+
 #[test]
 fn a_list_is_unrolled_checked_and_compared() {
     let mut work = Work::default();
@@ -59,6 +98,8 @@ fn short_memory_is_refused_and_untouched() {
         let reply = compare_programs(&[], &[], ALL, a, b, c, d);
         assert_eq!(reply, Reply::Refused(SHORT));
         assert_eq!(compare_lists(a, b, ALL, c, d), Reply::Refused(SHORT));
+        let explanation = explain(&[], &[], ALL, Chosen::Left, a, b, c, d);
+        assert_eq!(explanation, Explanation::Refused(SHORT));
         assert!(memory.iter().flatten().all(|&word| word == 3));
     }
     assert_eq!(unroll(&[], &mut []), Err(SHORT));
@@ -69,6 +110,9 @@ fn short_memory_is_refused_and_untouched() {
 #[test]
 fn little_stack_is_enough() {
     let deep = deep();
+    let mut other = deep.clone();
+    // The constant's name, before the ends of eight loops and of the file.
+    other[deep.len() - 13] += 1;
     let run = move || {
         let mut work = Work::default();
         let reply = work.programs(&deep, &deep, ALL);
@@ -76,6 +120,8 @@ fn little_stack_is_enough() {
         assert_eq!(unroll(&deep, &mut list), Ok(1));
         assert_eq!(check_list(&list), Ok(()));
         assert_eq!(work.lists(&list, &list, ALL), Reply::Equal(1));
+        let explanation = work.explain(&deep, &other, ALL, Chosen::Left);
+        assert!(matches!(explanation, Explanation::Written(written) if written.count == 8));
         reply
     };
     let thread = std::thread::Builder::new().stack_size(128 << 10).spawn(run).expect("a thread");

@@ -1,4 +1,4 @@
-//! The separately written checker under C names, with the parameters and four numbers of `bindings/c/tengmua.h`; and its random
+//! The separately written checker under C names, with the parameters and numbers of `bindings/c/tengmua.h`; and its random
 //! programs and lists. For `bindings/c/fuzz.c` alone.
 
 use std::slice::{from_raw_parts, from_raw_parts_mut};
@@ -6,8 +6,8 @@ use std::sync::Mutex;
 
 use beside::same::{Checker, Separate};
 use beside::workloads::split;
-use separate::random::{ListPairs, Pairs};
-use tengmua::{Reply, Side};
+use separate::random::{Explanations, ListPairs, Pairs};
+use tengmua::{Chosen, Explanation, Reply, Side, LOOPS};
 
 #[repr(C)]
 pub struct Numbers {
@@ -23,16 +23,59 @@ fn numbers(reply: Reply) -> Numbers {
         Reply::Equal(count) => [0, count, 0, 0],
         Reply::Differs(array, cell) => [1, array, cell, 0],
         Reply::Refused(refusal) => {
-            let side = match refusal.side {
-                Side::Left => 0,
-                Side::Right => 1,
-                Side::Both => 2,
-                Side::Input => 3,
-            };
-            [2, side, usize::from(refusal.question), refusal.place]
+            [2, side_number(refusal.side), usize::from(refusal.question), refusal.place]
         }
     };
     Numbers { kind, first, second, third }
+}
+
+fn side_number(side: Side) -> usize {
+    match side {
+        Side::Left => 0,
+        Side::Right => 1,
+        Side::Both => 2,
+        Side::Input => 3,
+    }
+}
+
+#[repr(C)]
+#[derive(Default)]
+pub struct Explained {
+    kind: usize,
+    side: usize,
+    question: usize,
+    place: usize,
+    array: usize,
+    cell: usize,
+    from: usize,
+    to: usize,
+    count: usize,
+    indices: [i16; LOOPS],
+}
+
+fn explained(explanation: Explanation) -> Explained {
+    match explanation {
+        Explanation::Written(written) => Explained {
+            kind: 0,
+            array: written.array,
+            cell: written.cell,
+            from: written.from,
+            to: written.from + written.bytes.len(),
+            count: written.count,
+            indices: written.indices,
+            ..Explained::default()
+        },
+        Explanation::Starting { array, cell } => {
+            Explained { kind: 1, array, cell, ..Explained::default() }
+        }
+        Explanation::Refused(refusal) => Explained {
+            kind: 2,
+            side: side_number(refusal.side),
+            question: usize::from(refusal.question),
+            place: refusal.place,
+            ..Explained::default()
+        },
+    }
 }
 
 /// # Safety
@@ -104,12 +147,53 @@ pub unsafe extern "C" fn twin_check_list(list: *const u32, list_length: usize) -
     numbers(Separate.check(from_raw_parts(list, list_length)))
 }
 
-/// Random pairs of programs and of lists.
-static SOURCES: Mutex<Option<(Pairs, ListPairs)>> = Mutex::new(None);
+/// # Safety
+/// As `tengmua_explain`.
+#[no_mangle]
+pub unsafe extern "C" fn twin_explain(
+    left: *const u8,
+    left_length: usize,
+    right: *const u8,
+    right_length: usize,
+    mask: u16,
+    side: usize,
+    left_list: *mut u32,
+    left_list_length: usize,
+    right_list: *mut u32,
+    right_list_length: usize,
+    cells: *mut u32,
+    cells_length: usize,
+    terms: *mut u32,
+    terms_length: usize,
+) -> Explained {
+    let left = from_raw_parts(left, left_length);
+    let right = from_raw_parts(right, right_length);
+    let chosen = if side == 0 { Chosen::Left } else { Chosen::Right };
+    let work = [
+        from_raw_parts_mut(left_list, left_list_length),
+        from_raw_parts_mut(right_list, right_list_length),
+        from_raw_parts_mut(cells, cells_length),
+        from_raw_parts_mut(terms, terms_length),
+    ];
+    explained(Separate.explain(left, right, mask, chosen, work))
+}
+
+/// Random pairs of programs, of lists, and of programs that mostly differ.
+struct Sources {
+    pairs: Pairs,
+    lists: ListPairs,
+    explanations: Explanations,
+}
+
+static SOURCES: Mutex<Option<Sources>> = Mutex::new(None);
 
 #[no_mangle]
 pub extern "C" fn twin_seed(seed: u64) {
-    *SOURCES.lock().expect("one thread") = Some((Pairs::new(seed), ListPairs::new(seed)));
+    *SOURCES.lock().expect("one thread") = Some(Sources {
+        pairs: Pairs::new(seed),
+        lists: ListPairs::new(seed),
+        explanations: Explanations::new(seed),
+    });
 }
 
 /// Copies what fits and gives its length.
@@ -131,8 +215,26 @@ pub unsafe extern "C" fn twin_programs(
     lengths: *mut usize,
 ) {
     let mut sources = SOURCES.lock().expect("one thread");
-    let (pairs, _) = sources.as_mut().expect("seeded");
+    let pairs = &mut sources.as_mut().expect("seeded").pairs;
     let pair = pairs.find_map(|input| split(&input)).expect("endless");
+    let lengths = from_raw_parts_mut(lengths, 2);
+    lengths[0] = copy(&pair.left, left, room);
+    lengths[1] = copy(&pair.right, right, room);
+}
+
+/// The next two programs that have something to explain in most cases.
+///
+/// # Safety
+/// As `twin_programs`.
+#[no_mangle]
+pub unsafe extern "C" fn twin_differing(
+    left: *mut u8,
+    right: *mut u8,
+    room: usize,
+    lengths: *mut usize,
+) {
+    let mut sources = SOURCES.lock().expect("one thread");
+    let pair = sources.as_mut().expect("seeded").explanations.pair();
     let lengths = from_raw_parts_mut(lengths, 2);
     lengths[0] = copy(&pair.left, left, room);
     lengths[1] = copy(&pair.right, right, room);
@@ -150,8 +252,7 @@ pub unsafe extern "C" fn twin_lists(
     lengths: *mut usize,
 ) {
     let mut sources = SOURCES.lock().expect("one thread");
-    let (_, lists) = sources.as_mut().expect("seeded");
-    let pair = lists.next().expect("endless");
+    let pair = sources.as_mut().expect("seeded").lists.next().expect("endless");
     let lengths = from_raw_parts_mut(lengths, 2);
     lengths[0] = copy(&pair.left.words, left, room);
     lengths[1] = copy(&pair.right.words, right, room);

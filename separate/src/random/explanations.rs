@@ -20,14 +20,21 @@ pub struct Explanations {
     work: Work,
 }
 
+/// Two programs, and the arrays in which they are compared.
+pub struct Masked {
+    pub left: Vec<u8>,
+    pub right: Vec<u8>,
+    pub mask: u16,
+}
+
 impl Iterator for Explanations {
     type Item = Vec<u8>;
 
     fn next(&mut self) -> Option<Vec<u8>> {
-        let (left, right) = self.pair()?;
+        let Masked { left, right, mask } = self.pair();
         let garbage = any_words(&mut self.random);
         let side = self.random.below(2) as u8;
-        let mask = self.mask(&left, &right).to_le_bytes();
+        let mask = mask.to_le_bytes();
         let lent = [&words(&garbage)[..], &mask, &[side], &left, &right].concat();
         let [one, other, cells, terms] = lengths(&mut self.random, 1);
         let mut record = record(34, [left.len(), one, other, cells, terms, garbage.len()], &lent);
@@ -41,6 +48,13 @@ impl Explanations {
         Explanations { random: Random::new(!seed), pairs: Pairs::new(seed), work: Work::default() }
     }
 
+    /// The pair of the next record, for callers that need no record.
+    pub fn pair(&mut self) -> Masked {
+        let (left, right) = self.programs();
+        let mask = self.mask(&left, &right);
+        Masked { left, right, mask }
+    }
+
     /// Mostly with the array that differs, or there is nothing to explain.
     fn mask(&mut self, left: &[u8], right: &[u8]) -> u16 {
         let mask = mask(&mut self.random);
@@ -50,15 +64,15 @@ impl Explanations {
         }
     }
 
-    fn pair(&mut self) -> Option<(Vec<u8>, Vec<u8>)> {
+    fn programs(&mut self) -> (Vec<u8>, Vec<u8>) {
         let input = match self.random.below(100) {
             0..=39 => self.pairs.differs(),
             // Equal, refused or damaged as well.
-            40..=51 => self.pairs.next()?,
-            _ => return Some(self.nests()),
+            40..=51 => self.pairs.next().expect("endless"),
+            _ => return self.nests(),
         };
-        let programs = split(&input).unwrap_or((&input, &[]));
-        Some((programs.0.to_vec(), programs.1.to_vec()))
+        let (left, right) = split(&input).unwrap_or((&input, &[]));
+        (left.to_vec(), right.to_vec())
     }
 
     /// Two nests that differ.

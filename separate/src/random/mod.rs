@@ -11,7 +11,7 @@ mod rewrites;
 mod templates;
 
 pub use entries::Records;
-pub use explanations::Explanations;
+pub use explanations::{Explanations, Masked};
 pub use lists::{ListPairs, Parts};
 pub use pairs::Pairs;
 

@@ -1,12 +1,14 @@
 //! bench [SECONDS [SEED]]: times of the proved checker and of the separately written one, as tab-separated lines
-//! `workload entry ours theirs ratio` and `growth quantity size ours theirs ratio`, in nanoseconds. SECONDS is the budget for
-//! each line.
+//! `workload entry ours theirs ratio` and `growth quantity size ours theirs ratio`, in nanoseconds; and `explain workload` with
+//! three numbers of ours, then of the other: an explanation, the comparison alone, and their ratio. SECONDS is the budget for
+//! two times, taken by turns.
 
 use std::hint::black_box;
 use std::time::Duration;
 
+use beside::same::{Checker, Ours, Separate};
 use beside::time::{best, Times};
-use beside::workloads::{all, growths, Pair, Workload};
+use beside::workloads::{all, explained, growths, Explained, Pair, Workload};
 use separate::limits::{CELL_WORDS, LIST_WORDS, TERM_WORDS};
 use tengmua::{Reply, Work, ALL};
 
@@ -52,6 +54,30 @@ impl Bench {
                 for Pair { left, right } in pairs {
                     let Memory { left: a, right: b, cells, terms } = theirs;
                     done(separate::compare_programs_masked(left, right, ALL, a, b, cells, terms));
+                }
+            },
+        )
+    }
+
+    /// How long one checker explains, and how long it compares the same pairs. `Times` calls the second `theirs`.
+    fn explain(
+        &mut self,
+        checker: &impl Checker,
+        Explained { workload, chosen }: &Explained,
+    ) -> Times {
+        let (one, other) = (&mut self.ours, &mut self.theirs);
+        best(
+            self.budget,
+            || {
+                for Pair { left, right } in &workload.pairs {
+                    let Memory { left: a, right: b, cells, terms } = &mut *one;
+                    done(checker.explain(left, right, ALL, *chosen, [a, b, cells, terms]));
+                }
+            },
+            || {
+                for Pair { left, right } in &workload.pairs {
+                    let Memory { left: a, right: b, cells, terms } = &mut *other;
+                    done(checker.programs(left, right, ALL, [a, b, cells, terms]));
                 }
             },
         )
@@ -129,6 +155,15 @@ fn table(bench: &mut Bench, Workload { name, pairs }: &Workload) {
     line(&[name, "check_list"], bench.check(&both));
 }
 
+fn explanations(bench: &mut Bench, seed: u64) {
+    for explained in explained(seed) {
+        let times = [bench.explain(&Ours, &explained), bench.explain(&Separate, &explained)];
+        let [ours, theirs] = times
+            .map(|times| format!("{:.0}\t{:.0}\t{:.2}", times.ours, times.theirs, times.ratio()));
+        println!("explain\t{}\t{ours}\t{theirs}", explained.workload.name);
+    }
+}
+
 fn number<T: std::str::FromStr>(place: usize, default: T) -> T {
     match std::env::args().nth(place) {
         Some(word) => word.parse().unwrap_or_else(|_| panic!("'{word}' is no number")),
@@ -139,9 +174,11 @@ fn number<T: std::str::FromStr>(place: usize, default: T) -> T {
 fn main() {
     let budget = Duration::from_secs_f64(number(1, 0.3));
     let mut bench = Bench { budget, ours: Memory::new(), theirs: Memory::new() };
-    for workload in all(number(2, 1)) {
+    let seed = number(2, 1);
+    for workload in all(seed) {
         table(&mut bench, &workload);
     }
+    explanations(&mut bench, seed);
     for growth in growths() {
         for (size, pair) in growth.sizes {
             let times = bench.programs(&[pair]);

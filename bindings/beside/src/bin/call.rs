@@ -1,13 +1,13 @@
 //! call WHO ENTRY NUMBER [COUNT]: calls one entry of one checker on the pairs of one workload, COUNT times (default 1), and does
-//! little else: for callgrind. WHO is `ours` or `separate`; ENTRY is programs, lists, unroll or check; NUMBER is that of a
-//! workload of one pair in the table, from 0.
+//! little else: for callgrind. WHO is `ours` or `separate`; ENTRY is programs, lists, unroll, check or explain; NUMBER is that of
+//! a workload of one pair in the table, from 0; for explain, of those that differ.
 
 use std::hint::black_box;
 
 use beside::memory::ENOUGH;
 use beside::same::{Checker, Ours, Separate};
-use beside::workloads::{single, Pair};
-use tengmua::{ALL, LIST_WORDS};
+use beside::workloads::{explained, single, Pair};
+use tengmua::{Chosen, ALL, LIST_WORDS};
 
 fn done<T>(answer: T) {
     black_box(answer);
@@ -27,6 +27,9 @@ fn call(checker: &dyn Checker, entry: &str, pairs: &[Pair], count: usize) {
         for Pair { left, right } in pairs {
             match entry {
                 "programs" => done(checker.programs(left, right, ALL, [a, b, c, d])),
+                "explain" => {
+                    done(checker.explain(left, right, ALL, Chosen::Right, [a, b, c, d]));
+                }
                 "unroll" => done((checker.unroll(left, a), checker.unroll(right, b))),
                 _ => {}
             }
@@ -48,7 +51,10 @@ fn main() {
     };
     let number: usize = number.parse().expect("a workload's number");
     let count = rest.first().map_or(1, |count| count.parse().expect("a number"));
-    let workloads = single();
+    let workloads: Vec<_> = match entry.as_str() {
+        "explain" => explained(1).into_iter().map(|explained| explained.workload).collect(),
+        _ => single(),
+    };
     let pairs = &workloads[number].pairs;
     match who.as_str() {
         "ours" => call(&Ours, entry, pairs, count),

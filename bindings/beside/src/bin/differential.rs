@@ -1,26 +1,41 @@
-//! differential PAIRS LISTS SEED: so many random program pairs and list pairs through the static library and through the
-//! separately written checker. Work memory is full of garbage before each call. Ends with status 1 at the first difference,
-//! whose inputs it saves (difference.left, difference.right).
+//! differential PAIRS LISTS SEED: so many random program pairs, as many that mostly differ, and so many list pairs through the
+//! static library and through the separately written checker; each program pair is explained for both sides. Work memory is
+//! full of garbage before each call. Ends with status 1 at the first difference, whose inputs it saves (difference.left,
+//! difference.right).
 
 use std::collections::BTreeMap;
 use std::process::ExitCode;
 
 use beside::same::{Beside, Difference, Ours, Separate};
 use beside::workloads::{split, Pair};
-use separate::random::{ListPairs, Pairs, Random};
-use tengmua::{Refusal, Reply};
+use separate::random::{Explanations, ListPairs, Masked, Pairs, Random};
+use tengmua::{Chosen, Explanation, Refusal, Reply};
 
-/// How often each kind of reply came.
+/// A kind of answer: its question where it is refused, otherwise 0 and a word.
+type Kind = (u8, &'static str);
+
+fn kind_of(reply: Reply) -> Kind {
+    match reply {
+        Reply::Equal(_) => (0, "equal"),
+        Reply::Differs(..) => (0, "differs"),
+        Reply::Refused(Refusal { question, .. }) => (question, "refused"),
+    }
+}
+
+fn kind_of_explanation(explanation: Explanation) -> Kind {
+    match explanation {
+        Explanation::Written(_) => (0, "written"),
+        Explanation::Starting { .. } => (0, "starting content"),
+        Explanation::Refused(Refusal { question, .. }) => (question, "refused"),
+    }
+}
+
+/// How often each kind of answer came.
 #[derive(Default)]
-struct Histogram(BTreeMap<(u8, &'static str), usize>);
+struct Histogram(BTreeMap<Kind, usize>);
 
 impl Histogram {
-    fn add(&mut self, reply: Reply) {
-        let kind = match reply {
-            Reply::Equal(_) => (0, "equal"),
-            Reply::Differs(..) => (0, "differs"),
-            Reply::Refused(Refusal { question, .. }) => (question, "refused"),
-        };
+    fn add(&mut self, kind: Kind) {
         *self.0.entry(kind).or_insert(0) += 1;
     }
 
@@ -53,9 +68,10 @@ impl Test {
         }
     }
 
-    /// Pairs of valid, changed and damaged programs; each program is also unrolled alone.
+    /// Pairs of valid, changed and damaged programs; each program is also unrolled alone, and each pair explained.
     fn programs(&mut self, count: usize, seed: u64) -> Result<(), Difference> {
         let (mut compared, mut unrolled) = (Histogram::default(), Histogram::default());
+        let mut explained = Histogram::default();
         let pairs = Pairs::new(seed).map(|input| whole(&input));
         for (number, Pair { left, right }) in pairs.take(count).enumerate() {
             let mask = self.mask();
@@ -66,13 +82,47 @@ impl Test {
                 save(&left, &right);
                 format!("pair {number}, mask {mask:#x}: {difference}")
             })?;
-            compared.add(reply);
-            unrolled.add(one);
-            unrolled.add(other);
+            compared.add(kind_of(reply));
+            unrolled.add(kind_of(one));
+            unrolled.add(kind_of(other));
+            self.explain(&left, &right, mask, number, &mut explained)?;
         }
         println!("{count} program pairs, seed {seed}: the same replies and memory");
         compared.print("compare_programs", count)?;
-        unrolled.print("unroll", 2 * count)
+        unrolled.print("unroll", 2 * count)?;
+        explained.print("explain", 2 * count)
+    }
+
+    /// Pairs that have something to explain in most cases.
+    fn explanations(&mut self, count: usize, seed: u64) -> Result<(), Difference> {
+        let mut explained = Histogram::default();
+        let mut pairs = Explanations::new(seed);
+        for number in 0..count {
+            let Masked { left, right, mask } = pairs.pair();
+            self.explain(&left, &right, mask, number, &mut explained)?;
+        }
+        println!("{count} program pairs that mostly differ, seed {seed}: the same explanations and memory");
+        explained.print("explain", 2 * count)
+    }
+
+    /// For both sides.
+    fn explain(
+        &mut self,
+        left: &[u8],
+        right: &[u8],
+        mask: u16,
+        number: usize,
+        explained: &mut Histogram,
+    ) -> Result<(), Difference> {
+        for chosen in [Chosen::Left, Chosen::Right] {
+            let outcome = self.beside.explain(left, right, mask, chosen);
+            let explanation = outcome.map_err(|difference| {
+                save(left, right);
+                format!("pair {number}, mask {mask:#x}, explained for {chosen:?}: {difference}")
+            })?;
+            explained.add(kind_of_explanation(explanation));
+        }
+        Ok(())
     }
 
     /// Lists beside new orders of theirs, changed, damaged, cut off, in slices long and short; each is also checked alone.
@@ -90,9 +140,9 @@ impl Test {
                 save(&bytes(&left), &bytes(&right));
                 format!("list pair {number}, mask {:#x}: {difference}", pair.mask)
             })?;
-            compared.add(reply);
-            checked.add(one);
-            checked.add(other);
+            compared.add(kind_of(reply));
+            checked.add(kind_of(one));
+            checked.add(kind_of(other));
         }
         println!("{count} list pairs, seed {seed}: the same replies and memory");
         compared.print("compare_lists", count)?;
@@ -133,8 +183,10 @@ fn main() -> ExitCode {
     };
     let mut test =
         Test { beside: Beside::new(Ours, Separate, seed), random: Random::new(seed ^ 0x5EED) };
-    let outcome =
-        test.programs(pairs as usize, seed).and_then(|()| test.lists(lists as usize, seed));
+    let outcome = test
+        .programs(pairs as usize, seed)
+        .and_then(|()| test.explanations(pairs as usize, seed))
+        .and_then(|()| test.lists(lists as usize, seed));
     match outcome {
         Ok(()) => ExitCode::SUCCESS,
         Err(difference) => {
