@@ -1,8 +1,9 @@
 """Prints the proved reply for two loop programs; HELP says how it is called. `tengmua` starts it.
 
-A reply is written only where both programs were read whole and `pair` gave exactly one whole line. Everything else is a line on
-standard error and status 3. `pair` is run from a private copy whose name holds the digest of the sources that it was proved from
-and the digest of its own bytes, so neither an old binary nor a damaged one answers.
+A reply is written only where both programs were read whole and `pair` gave exactly one whole line, or `explain` exactly those of
+an explained reply; all of it is written at once. Everything else is a line on standard error and status 3. `pair` and `explain`
+are run from private copies whose names hold the digest of the sources that they were proved from and the digest of their own
+bytes, so neither an old binary nor a damaged one answers.
 """
 import codecs
 import contextlib
@@ -22,9 +23,10 @@ import time
 HELP = """\
 tengmua: do two loop programs leave the same values?
 
-  tengmua [--places] [--bytes] [--unproved] [--] LEFT RIGHT
-  tengmua [--unproved] -        a framed pair on standard input: the left's length in two bytes, the left, the right
-  tengmua --question N          what question N (1 to 26) asks, and what to do about a refusal
+  tengmua [--explain] [--places] [--bytes] [--unproved] [--] LEFT RIGHT
+  tengmua [--explain] [--places] [--unproved] -
+                                a framed pair on standard input: the left's length in two bytes, the left, the right
+  tengmua --question N          what question N (1 to 27) asks, and what to do about a refusal
   tengmua --help
 
 LEFT and RIGHT are program files (docs/FORMAT.md) or texts in the notation of separate/README.md. A file is a program file if it
@@ -40,6 +42,16 @@ One line goes to standard output:
 Status 3: no reply, nothing on standard output, and a line on standard error that says why. Standard error also explains a
 reply: on `differs` the element with its subscripts, on `refused` the question and, for a text, the line and column.
 
+  --explain       on `differs`, a second line for the left program and a third for the right: the statement that wrote the
+                  element last, or that none did
+
+                    left: bytes 22 to before 32, i = 1: B[i] = A[i]
+                    right: starting content
+
+                  Bytes count from 0: the statement's first, and the first behind it. Then each index around it, outermost
+                  first, with its value (none outside of loops). Then the statement in the text that `separate dis` makes of
+                  the program, with that text's names for arrays (A, B), operators (f0, f1) and indices (i, j). Standard error
+                  has the line and column in a text. Where `separate` can't be built a difference has no reply
   --places        on `refused`, the line for a program file too, in the text that `separate dis --places` makes of it
   --unproved      ask the separately written program, which is not proved but is built in seconds; each line on standard error
                   says so
@@ -50,16 +62,28 @@ The first call proves and builds what is missing, which takes some minutes.
   equal 32
   $ ./tengmua examples/jacobi.alp examples/jacobi-wrong-skew.alp
   differs 0 2
+  $ ./tengmua --explain examples/jacobi.alp examples/jacobi-wrong-skew.alp
+  differs 0 2
+  left: bytes 78 to before 90, i = 1, j = 2: A[j] = B[j]
+  right: bytes 112 to before 124, i = 5, j = 1: A[i - 2*j - 1] = B[i - 2*j - 1]
 """
 
 ROOT = os.path.dirname(os.path.dirname(os.path.realpath(__file__)))
 KEPT = os.path.join(ROOT, 'target', 'tengmua')
 PROGRAM = 16384  # bytes of the longest program
 FRAMED = 32771  # bytes of standard input that decide the reply
+STATEMENT = 1  # the code byte of a statement
 TEXT = 1 << 20  # bytes of the longest text that is taken
 NO_TEXT = re.compile(rb'[\x00-\x08\x0b\x0c\x0e-\x1f\x7f]')
 NUMBER = rb'(0|[1-9][0-9]*)'
 REPLY = re.compile(b'equal %s\n|differs %s %s\n|refused (left|right|both|input) %s %s\n' % ((NUMBER,) * 5))
+PLACE = rb'(0|[1-9][0-9]{0,4})'
+VALUES = rb'((?: (?:0|-?[1-9][0-9]{0,4})){0,8})'
+# The line of `explain` for a side: of the element that differs (groups 1 and 2), and of no other.
+ORIGIN = rb'(?:starting \1 \2|written \1 \2 %s %s%s)\n' % (PLACE, PLACE, VALUES)
+EXPLAINED = re.compile(rb'differs %s %s\n%s%s' % (NUMBER, NUMBER, ORIGIN, ORIGIN))
+PLACED = re.compile(r'^ *(.*?) *# (?:end )?at ([0-9]+)$', re.MULTILINE)  # a line of `separate dis --places`
+SIDES = ('left', 'right')
 STATUS = {b'equal': 0, b'differs': 1, b'refused': 2}
 SIGNALS = (signal.SIGINT, signal.SIGTERM, signal.SIGHUP)
 TELL_EVERY = 20  # seconds between lines that say how far a build is
@@ -250,30 +274,30 @@ def version_of_rt():
     return version
 
 
-class Pair:
-    """The proved program."""
-    name = 'pair'
+class Proved:
+    """A proved program, by its name."""
 
-    @staticmethod
-    def sources():
+    def __init__(self, name):
+        self.name = name
+
+    def sources(self):
         paths = ['crates.txt']
-        for crate in crates_of('pair'):
+        for crate in crates_of(self.name):
             for part in ('src', 'specs', 'proofs'):
                 if os.path.isdir(os.path.join(ROOT, 'crates', crate, part)):
                     paths += files_below(os.path.join('crates', crate, part))
         return digest_of_files(paths, version_of_rt())
 
-    @staticmethod
-    def build():
-        crates = crates_of('pair')
-        say(f'proving and building pair ({len(crates)} crates), which takes some minutes where nothing is proved yet;')
+    def build(self):
+        crates = crates_of(self.name)
+        say(f'proving and building {self.name} ({len(crates)} crates), which takes some minutes where nothing is proved yet;')
         say('tengmua --unproved answers sooner, without a proof. The lines of the prover follow.')
-        built = os.path.join(ROOT, 'target', 'bin', 'pair')
+        built = os.path.join(ROOT, 'target', 'bin', self.name)
         # Without its stamp `rt` proves and links the program again, whatever stands in target/bin.
-        for path in (os.path.join(ROOT, 'target', 'stamp', 'pair'), built):
+        for path in (os.path.join(ROOT, 'target', 'stamp', self.name), built):
             with contextlib.suppress(FileNotFoundError):
                 os.remove(path)
-        run_build(['rt', 'check', 'pair'], re.compile(rb'rt: \w+ proved'), len(crates))
+        run_build(['rt', 'check', self.name], re.compile(rb'rt: \w+ proved'), len(crates))
         return built
 
 
@@ -452,13 +476,81 @@ def framed(left, right):
     return struct.pack('<H', min(len(left), 65535)) + left + right
 
 
-def ask(data, unproved):
-    """The line of the reply, or a failure."""
-    path, words = (program(Separate), ['pair']) if unproved else (program(Pair), [])
+class Origin:
+    """The update that wrote an element last on one side: the bytes of its statement, and its index values, outermost first."""
+
+    def __init__(self, start, end, values):
+        self.start, self.end = int(start), int(end)
+        self.values = [int(value) for value in values.split()]
+
+    def fits(self, data):
+        """Whether a program of these bytes can have such an update."""
+        inside = self.start < self.end <= len(data) and data[self.start] == STATEMENT
+        return inside and all(-32768 <= value <= 32767 for value in self.values)
+
+
+def origins_of(output, files):
+    """What `explain` says of both sides of a difference: None of one that never wrote the element; no list where a part is wrong."""
+    found = EXPLAINED.fullmatch(output)
+    if found is None:
+        return None
+    origins = [None if part[0] is None else Origin(*part) for part in (found.group(3, 4, 5), found.group(6, 7, 8))]
+    return origins if all(one is None or one.fits(file.bytes) for one, file in zip(origins, files)) else None
+
+
+def ask(name, data, files, unproved):
+    """What is printed, the reply's line first, and the origins on both sides where `explain` has a difference; or a failure."""
+    path, words = (program(Separate), [name]) if unproved else (program(Proved(name)), [])
     done = ran(path, words, data)
-    if done.returncode != 0 or not REPLY.fullmatch(done.stdout):
-        raise Failure(f'no reply from {os.path.basename(path).split("-")[0]}: {message_of(done)}')
-    return done.stdout
+    if name == 'explain' and done.stdout.startswith(b'differs'):
+        origins = origins_of(done.stdout, files)
+    else:
+        origins = [] if REPLY.fullmatch(done.stdout) else None
+    if done.returncode != 0 or origins is None:
+        why = message_of(done) if done.returncode or done.stderr else 'it printed something else'
+        raise Failure(f'no reply from {os.path.basename(path).split("-")[0]}: {why}')
+    return done.stdout, origins
+
+
+# ---- what wrote the element
+
+
+def statement_of(origin, file):
+    """An origin's statement and the names of the indices around it, in the text that `separate dis --places` makes of a program."""
+    done = ran(program(Separate), ['dis', '--places'], file.bytes)
+    if done.returncode != 0:
+        raise Failure(f'{shown(file.name)}: {message_of(done)}')
+    rows = PLACED.findall(done.stdout.decode('utf-8', 'replace'))
+    around = []
+    for (text, place), (_, behind) in zip(rows, rows[1:]):
+        if text.startswith(('for ', 'if ')):
+            around.append(text.split()[:2])
+        elif text == '}':
+            around.pop()
+        elif ' = ' in text and (int(place), int(behind)) == (origin.start, origin.end):
+            return text, [name for word, name in around if word == 'for']
+    raise Failure(f'{shown(file.name)}: separate dis has no statement from place {origin.start} to before {origin.end}')
+
+
+def side_line(side, origin, file):
+    """What wrote the element on one side."""
+    if origin is None:
+        return f'{side}: starting content\n'
+    text, names = statement_of(origin, file)
+    if len(names) != len(origin.values):
+        raise Failure(f'{shown(file.name)}: {len(origin.values)} index values in {len(names)} loops')
+    values = ''.join(f', {name} = {value}' for name, value in zip(names, origin.values))
+    return f'{side}: bytes {origin.start} to before {origin.end}{values}: {text}\n'
+
+
+def lines_of(output, origins, files):
+    """The reply's line and, on a difference, one for each side. Where these can't be made, the failure has what `explain` printed."""
+    line, *said = output.decode().splitlines()
+    try:
+        lines = [side_line(*one) for one in zip(SIDES, origins, files)]
+    except (Failure, OSError, LookupError, subprocess.SubprocessError) as error:
+        raise Failure(f'no text for "{line}; left {said[0]}; right {said[1]}": {error}') from None
+    return (line + '\n' + ''.join(lines)).encode()
 
 
 # ---- what is explained
@@ -509,16 +601,19 @@ def element(name, extents, cell):
     return f'{name}[{", ".join(subscripts)}]'
 
 
-def explain_differs(array, cell, left, right):
-    extents = extents_of(left.bytes)[array]
-    names = [Names(file).declared('role', array)[0] for file in (left, right)]
+def explain_differs(array, cell, files, origins):
+    extents = extents_of(files[0].bytes)[array]
+    names = [Names(file).declared('role', array)[0] for file in files]
     both = [element(name, extents, cell) for name in names]
     say(f'the first difference is in {both[0]}' + ('' if names[0] == names[1] else f' (on the right {both[1]})'))
+    for file, what, origin in zip(files, both, origins):
+        if file.text is not None and origin is not None:
+            say(f'{Names(file).at(origin.start)}: the statement that writes {what} last')
 
 
 def explain_refused(side, number, place, files, places):
     question = question_row(number)[1]
-    if side in ('left', 'right'):
+    if side in SIDES:
         file = files[side == 'right']
         say(f'{Names(file).at(place)}: question {number}: {question}')
         if places and file.text is None:
@@ -544,12 +639,12 @@ def explain_place(file, place):
             say(f'{shown(file.name)}: place {place} is line {number} of its text (separate dis --places): {text}')
 
 
-def explain(line, files, places):
+def explain(line, files, origins, places):
     """What a reply says of the files, on standard error. A reply stands without it."""
     words = line.decode().split()
     try:
         if words[0] == 'differs':
-            explain_differs(int(words[1]), int(words[2]), *files)
+            explain_differs(int(words[1]), int(words[2]), files, origins)
         elif words[0] == 'refused':
             explain_refused(words[1], int(words[2]), int(words[3]), files, places)
     except (Failure, OSError, LookupError, struct.error, subprocess.SubprocessError) as error:
@@ -563,7 +658,7 @@ def question_row(number):
             cells = [cell.strip() for cell in line.strip().strip('|').split('|')]
             if len(cells) == 5 and cells[0] == str(number):
                 return cells
-    raise Failure(f"'{number}' is no question: they have the numbers 1 to 26")
+    raise Failure(f"'{number}' is no question: they have the numbers 1 to 27")
 
 
 def tell_question(word):
@@ -580,7 +675,7 @@ class Call:
     def __init__(self, words):
         self.options = set()
         self.question = None
-        while words and words[0] in ('--help', '--question', '--places', '--bytes', '--unproved'):
+        while words and words[0] in ('--help', '--question', '--explain', '--places', '--bytes', '--unproved'):
             option = words.pop(0)
             if option == '--question':
                 self.question = words.pop(0) if words else ''
@@ -619,11 +714,13 @@ def reply(call):
             if file.text is not None:
                 assemble(file)
         data = framed(files[0].bytes, files[1].bytes)
-    line = ask(data, '--unproved' in call.options)
+    output, origins = ask('explain' if '--explain' in call.options else 'pair', data, files, '--unproved' in call.options)
+    lines = lines_of(output, origins, files)
     if mark:
         say('this reply is of the separately written program')
-    write_out(line)
-    explain(line, files, '--places' in call.options)
+    write_out(lines)
+    line = output.split(b'\n')[0]
+    explain(line, files, origins, '--places' in call.options)
     return STATUS[line.split()[0]]
 
 
