@@ -62,7 +62,7 @@ input-cut (a ∷ b ∷ t) =
     rw (le-leb 2 (length (take 32771 (a ∷ b ∷ t))) (omega arith), le-leb 2 (length (a ∷ b ∷ t)) (omega arith)) (framed-cut (a + 256 * (b + 256 * 0)) t)
 
 -- a frame that is not refused is answered as its two programs are
-unrefused : (s : List ℕ) → isRefused (inputReply s) ≡ false → inputReply s ≡ programsReply allBits (leftIn s) (rightIn s)
+pub unrefused : (s : List ℕ) → isRefused (inputReply s) ≡ false → inputReply s ≡ programsReply allBits (leftIn s) (rightIn s)
 unfolding inputReply
 unrefused s h = go (leb 2 (length s)) (leb (littleEndian 2 s 0) 16384) (leb (littleEndian 2 s 0) (length (drop 2 s))) h
   where

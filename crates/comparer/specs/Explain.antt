@@ -9,7 +9,7 @@ use Rattle.model.specs.Reply as model
 use Rattle.model.specs.Reply.{Side, both}
 use Rattle.reader.specs.Entries.{padded}
 use Rattle.unroller.specs.Executed.{Origin, originOf}
-use Rattle.comparer.specs.Entry.{entryReply, programsReply}
+use Rattle.comparer.specs.Entry.{entryReply, programsReply, leftIn, rightIn, inputReply}
 
 -- the side that a caller asks about
 pub data Chosen : Type 0 where
@@ -51,3 +51,7 @@ byReply origin (model.refused s k p) = plain (refused s k p)
 -- the explanation for a side, under a mask, where the lent memory is long enough or not
 unfoldable pub explanation : Bool → ℕ → Chosen → List ℕ → List ℕ → Explanation
 explanation long mask side l r = byReply (originOf (chosen side l r)) (entryReply long (programsReply mask l r))
+
+-- the same of framed input, with all bits set
+unfoldable pub inputExplanation : Bool → Chosen → List ℕ → Explanation
+inputExplanation long side s = byReply (originOf (chosen side (leftIn s) (rightIn s))) (entryReply long (inputReply s))

@@ -1,7 +1,9 @@
 // The explanation of a difference: the stretch of the left or the right program's bytes that wrote the element last.
+use crate::programs::compare_input;
 use crate::programs::compare_programs_masked;
 use crate::reply::Reply;
 use crate::reply::Side;
+use model::byte::wide;
 use unroller::Source;
 use unroller::origin_of;
 ghost use mathlib.Core.Path.{_≡_};
@@ -10,8 +12,10 @@ ghost use lib.Dec.{leb};
 ghost use Rattle.model.specs.Memory.{listWords, workLeft};
 ghost use Rattle.unroller.specs.OriginReply.{originReply, sourceSays};
 ghost use Rattle.comparer.specs.Answers.{replySays};
-ghost use Rattle.comparer.specs.Entry.{enoughLent};
-ghost use Rattle.comparer.specs.Explain.{plain, explanation};
+ghost use Prim.Native.Nat.{_+_, _≤_};
+ghost use Rattle.reader.specs.Field.{littleEndian};
+ghost use Rattle.comparer.specs.Entry.{enoughLent, leftIn, rightIn};
+ghost use Rattle.comparer.specs.Explain.{plain, explanation, inputExplanation};
 ghost use Rattle.comparer.specs.ExplainAnswers.{chosenSays, chosenOf, answerSays, explanationSays, answerBy, explanationBy, repliedBy, listLeft, IsPart};
 
 // The side that a caller asks about.
@@ -115,6 +119,72 @@ pub fn explain(
 {
     let reply = compare_programs_masked(left, right, mask, left_list, right_list, cells, terms);
     replied(reply, left, right, side, left_list)
+}
+
+// Where the left of a framed input ends, as stated.
+fn left_end(input: &[u8]) -> usize
+    requires { ⌜ 2 ≤ length (now input) ⌝ }
+    ensures { λ r. ⌜ r ≡ 2 + littleEndian 2 (now (input .entry)) 0 ⌝ }
+{
+    2 + (wide(input[0]) + 256 * wide(input[1]))
+}
+
+// The two programs of a framed input, as far as they are there.
+fn left_in(input: &[u8]) -> &[u8]
+    ensures { λ r. ⌜ now r ≡ leftIn (now (input .entry)) ⌝ }
+{
+    if input.len() < 2 {
+        return &input[0..0];
+    }
+    let end = left_end(input);
+    if input.len() < end {
+        return &input[2..];
+    }
+    &input[2..end]
+}
+
+fn right_in(input: &[u8]) -> &[u8]
+    ensures { λ r. ⌜ now r ≡ rightIn (now (input .entry)) ⌝ }
+{
+    if input.len() < 2 {
+        return &input[0..0];
+    }
+    let end = left_end(input);
+    if input.len() < end {
+        return &input[0..0];
+    }
+    &input[end..]
+}
+
+fn framed(reply: Reply, input: &[u8], side: Chosen, list: &mut [u32]) -> Explanation
+    ensures says { λ r. ⌜ explanationSays r ≡ repliedBy (replySays reply) (λ a e. originReply (chosenOf side (leftIn (now (input .entry))) (rightIn (now (input .entry)))) a e (length (now (list .entry)))) ⌝ }
+    ensures leaves { λ _. ⌜ now (list .exit) ≡ listLeft (replySays reply) (now (list .entry)) ⌝ }
+{
+    let left = left_in(input);
+    let right = right_in(input);
+    replied(reply, left, right, side, list)
+}
+
+// The same for a framed input, with all bits of the mask set.
+pub fn explain_input(
+    input: &[u8],
+    side: Chosen,
+    left_list: &mut [u32],
+    right_list: &mut [u32],
+    cells: &mut [u32],
+    terms: &mut [u32],
+) -> Explanation
+    ensures { λ r. ⌜ (
+        let long = enoughLent (now («left_list» .entry)) (now («right_list» .entry)) (now (cells .entry)) (now (terms .entry)) in
+        (explanationSays r ≡ inputExplanation long (chosenSays side) (now (input .entry)))
+        × (now («left_list» .exit) ≡ workLeft long (now («left_list» .entry)))
+        × (now («right_list» .exit) ≡ workLeft long (now («right_list» .entry)))
+        × (now (cells .exit) ≡ workLeft long (now (cells .entry)))
+        × (now (terms .exit) ≡ workLeft long (now (terms .entry)))
+        ) ⌝ }
+{
+    let reply = compare_input(input, left_list, right_list, cells, terms);
+    framed(reply, input, side, left_list)
 }
 
 // The bytes from `from` up to `to`; none where there is no such part.

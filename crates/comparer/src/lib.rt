@@ -13,6 +13,7 @@ pub use explanation::Answer;
 pub use explanation::Chosen;
 pub use explanation::Explanation;
 pub use explanation::explain;
+pub use explanation::explain_input;
 pub use explanation::stretch;
 pub use line::LINE_BYTES;
 pub use line::Line;
