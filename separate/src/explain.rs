@@ -3,7 +3,8 @@
 //! The comparison runs first and as always. Only a difference is explained: the
 //! chosen program runs once more, watched for writes of the element.
 
-use crate::compare::Memory;
+use crate::compare::{Memory, ALL};
+use crate::input::{compare_input, split};
 use crate::limits::{ITEM_NESTING, LIST_WORDS};
 use crate::read::{read_program, Item, Program};
 use crate::reply::{Question, Refusal, Reply, Side};
@@ -118,6 +119,26 @@ pub fn explain(
                 None => Explanation::Starting { array, cell },
             }
         }
+    }
+}
+
+/// Explains the first element that differs in a framed input, with every bit of
+/// the mask set.
+pub fn explain_input(
+    input: &[u8],
+    chosen: Chosen,
+    left_list: &mut [u32],
+    right_list: &mut [u32],
+    cells: &mut [u32],
+    terms: &mut [u32],
+) -> Explanation {
+    match split(input) {
+        Ok((left, right)) => explain(left, right, ALL, chosen, left_list, right_list, cells, terms),
+        // Nothing differs that could be explained: 25, 1 or 2.
+        Err(_) => match compare_input(input, left_list, right_list, cells, terms) {
+            Reply::Refused { side, number, place } => Explanation::Refused { side, number, place },
+            reply => unreachable!("{reply:?} to an input that is not framed"),
+        },
     }
 }
 

@@ -22,7 +22,7 @@ pub mod tree;
 pub mod work;
 
 pub use compare::{compare_lists, compare_programs, compare_programs_masked};
-pub use explain::{explain, origin_of, stretch, Chosen, Explanation, Origin};
+pub use explain::{explain, explain_input, origin_of, stretch, Chosen, Explanation, Origin};
 pub use input::compare_input;
 pub use line::{line_of, line_of_explanation};
 pub use list::check_list;

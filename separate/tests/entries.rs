@@ -173,6 +173,25 @@ fn explanations() {
     assert_eq!(call(34, &[], &[0, 0, 0]), "34 2 2 25 0 0 0 0 0 0 0 0 0 0 0 0 0 0 0 0 0 0");
 }
 
+/// The same pair, framed.
+#[test]
+fn explanations_of_framed_input() {
+    let enough = [0, 32_768, 33_000, 4_096, 32_768, 0];
+    let mut right = L;
+    right[18] = 0;
+    let lent = |side: u8| [&[side, 34, 0][..], &L, &right].concat();
+    let written = "38 0 0 0 0 1 1 22 32 1 1 0 0 0 0 0 0 0 0 0 0 0";
+    assert_eq!(call(38, &enough, &lent(0)), written);
+    let starting = "38 1 0 0 0 1 1 0 0 0 0 0 0 0 0 0 0 0 0 0 0 0";
+    assert_eq!(call(38, &enough, &lent(9)), starting);
+    let refused = |refusal: &str| format!("38 2 {refusal} 0 0 0 0 0 0 0 0 0 0 0 0 0 0 0 0 0");
+    assert_eq!(call(38, &enough, &[0]), refused("3 1 0"));
+    assert_eq!(call(38, &enough, &[1, 34, 0, 9]), refused("3 1 0"));
+    assert_eq!(call(38, &enough, &[1, 1, 64]), refused("0 2 0"));
+    assert_eq!(call(38, &[], &lent(0)), refused("2 25 0"));
+    assert_eq!(call(38, &enough, b""), "38 -");
+}
+
 #[test]
 fn stretches_and_origins() {
     assert_eq!(call(35, &[3, 0, 1, 3], b"abcde"), format!("35 2 {}", 3 * 98 + 99));

@@ -27,7 +27,7 @@ fn after(j: usize, period: usize) -> usize {
 }
 
 // Three is odd: one word that differs changes the sum.
-fn added(sum: u32, word: u32) -> u32 {
+pub(crate) fn added(sum: u32, word: u32) -> u32 {
     let two = std::num::wrapping_add_u32(sum, sum);
     let three = std::num::wrapping_add_u32(two, sum);
     std::num::wrapping_add_u32(three, word)

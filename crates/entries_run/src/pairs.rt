@@ -1,10 +1,13 @@
-// The comparer's entries over two programs, over framed input, and over a reply.
+// The comparer's entries over two programs, over framed input, and over a reply; those that explain are in `explanations`.
+use crate::explanations;
 use crate::memory::fill;
 use crate::memory::say_sum;
 use crate::numbers::Args;
 use crate::numbers::low_byte;
 use crate::numbers::refused;
 use crate::numbers::say;
+use comparer::LINE_BYTES;
+use comparer::Line;
 use comparer::reply::Reply;
 use comparer::reply::Side;
 use model::byte::wide;
@@ -18,10 +21,16 @@ pub(crate) fn called(entry: usize, x: Args, s: &[u8]) {
             compared(entry, x, s);
         }
         33 => {
-            line(x);
+            say_line(comparer::line_of(reply_of(x)));
+        }
+        34 => {
+            compared(entry, x, s);
+        }
+        38 => {
+            compared(entry, x, s);
         }
         _ => {
-            refused();
+            explanations::called(entry, x, s);
         }
     }
 }
@@ -103,6 +112,10 @@ fn entered(
     cells: &mut [u32],
     terms: &mut [u32],
 ) {
+    if entry >= 34 {
+        explanations::entered(entry, n, s, left_list, right_list, cells, terms);
+        return;
+    }
     if n > s.len() {
         refused();
         return;
@@ -153,7 +166,7 @@ fn say_reply(reply: Reply) {
     }
 }
 
-fn say_side(side: Side) {
+pub(crate) fn say_side(side: Side) {
     match side {
         Side::Left => {
             say(0);
@@ -170,8 +183,7 @@ fn say_side(side: Side) {
     }
 }
 
-fn line(x: Args) {
-    let line = comparer::line_of(reply_of(x));
+pub(crate) fn say_line(line: Line) {
     let bytes = line.bytes;
     say(line.len);
     say_bytes(&bytes);
@@ -185,7 +197,7 @@ fn reply_of(x: Args) -> Reply {
     }
 }
 
-fn side_of(n: usize) -> Side {
+pub(crate) fn side_of(n: usize) -> Side {
     match n {
         0 => Side::Left,
         1 => Side::Right,
@@ -194,9 +206,9 @@ fn side_of(n: usize) -> Side {
     }
 }
 
-fn say_bytes(bytes: &[u8; 64]) {
+fn say_bytes(bytes: &[u8; LINE_BYTES]) {
     let mut k: usize = 0;
-    while k < 64 {
+    while k < LINE_BYTES {
         say(wide(bytes[k]));
         k += 1;
     }

@@ -1,7 +1,9 @@
 //! The entries that say where an element was written.
 
 use super::{memories, side_of, Line, Unfit};
-use crate::explain::{explain, origin_of, stretch, Chosen, Explanation, Origin, Writer};
+use crate::explain::{
+    explain, explain_input, origin_of, stretch, Chosen, Explanation, Origin, Writer,
+};
 use crate::line::line_of_explanation;
 use crate::reply::Side;
 
@@ -56,14 +58,28 @@ impl Line {
         let mask = u16::from_le_bytes([low, high]);
         let chosen = Chosen::from_number(usize::from(side));
         let [left_list, right_list, cells, terms] = &mut lent;
-        let explanation = explain(left, right, mask, chosen, left_list, right_list, cells, terms);
+        self.explanation(explain(left, right, mask, chosen, left_list, right_list, cells, terms));
+        lent.into_iter().for_each(|memory| self.sum(memory));
+        Ok(())
+    }
+
+    pub(super) fn explain_input(&mut self, arguments: [usize; 6], s: &[u8]) -> Result<(), Unfit> {
+        let [_, lengths @ .., k] = arguments;
+        let (mut lent, s) = memories(lengths, k, s)?;
+        let (&side, input) = s.split_first().ok_or(Unfit)?;
+        let chosen = Chosen::from_number(usize::from(side));
+        let [left_list, right_list, cells, terms] = &mut lent;
+        self.explanation(explain_input(input, chosen, left_list, right_list, cells, terms));
+        lent.into_iter().for_each(|memory| self.sum(memory));
+        Ok(())
+    }
+
+    fn explanation(&mut self, explanation: Explanation) {
         let numbers = Numbers::from(explanation);
         self.say(numbers.kind);
         self.say_all(numbers.refusal);
         self.say_all(numbers.element);
         self.writer(numbers.writer);
-        lent.into_iter().for_each(|memory| self.sum(memory));
-        Ok(())
     }
 
     /// The length of the part, and a sum of its bytes.

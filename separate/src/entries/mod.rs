@@ -143,6 +143,7 @@ impl Line {
             35 => self.stretch(arguments, s)?,
             36 => self.origin(arguments, s)?,
             37 => self.explanation_line(arguments, s),
+            38 => self.explain_input(arguments, s)?,
             _ => return Err(Unfit),
         }
         Ok(())

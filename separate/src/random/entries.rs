@@ -15,11 +15,11 @@ const POOL: usize = 32;
 /// Entries with how often each is called. 0 stands for records that no entry
 /// has.
 #[rustfmt::skip]
-const WEIGHTS: [(u8, usize); 35] = [
+const WEIGHTS: [(u8, usize); 36] = [
     (0, 1), (1, 3), (2, 1), (3, 1), (4, 1), (5, 2), (6, 2), (7, 3), (8, 3), (9, 4),
     (10, 2), (11, 2), (12, 3), (13, 3), (14, 3), (15, 4), (16, 3), (17, 2),
     (18, 12), (19, 12), (20, 6), (21, 5), (22, 6), (23, 6), (24, 1), (25, 2), (26, 2), (30, 8), (31, 3), (32, 3),
-    (33, 3), (34, 3), (35, 2), (36, 3), (37, 3),
+    (33, 3), (34, 3), (35, 2), (36, 3), (37, 3), (38, 3),
 ];
 
 /// Words that give terms of kind 19 the mixes 0, 1, 2 …, so one bucket.
@@ -49,7 +49,7 @@ impl Iterator for Records {
             18 | 19 => self.nested(entry),
             20..=23 => self.part(entry),
             30 => self.store(),
-            31 | 32 | 34 => self.pair(entry),
+            31 | 32 | 34 | 38 => self.pair(entry),
             33 => self.reply(),
             35 => self.stretch(),
             36 => self.origin(),
@@ -191,7 +191,7 @@ impl Records {
         let length = self.random.below(120);
         let mut record = self.random.bytes(length);
         if let Some(entry) = record.first_mut() {
-            *entry = *self.random.pick(&[0, 10, 18, 27, 29, 30, 31, 34, 38, 255]);
+            *entry = *self.random.pick(&[0, 10, 18, 27, 29, 30, 31, 34, 39, 255]);
         }
         record
     }
@@ -379,7 +379,7 @@ impl Records {
 
     /// Two programs, under a mask where they are explained, or framed input.
     fn pair(&mut self, entry: u8) -> Vec<u8> {
-        let (left, mut bytes) = if entry == 32 {
+        let (left, mut bytes) = if entry == 32 || entry == 38 {
             (0, self.random.pick(&self.pool).clone())
         } else {
             let (left, right) = self.programs();
@@ -391,6 +391,9 @@ impl Records {
         self.damage(&mut bytes);
         let left =
             if self.random.chance(90) { left.min(bytes.len()) } else { self.number(bytes.len()) };
+        if entry == 38 && self.random.chance(98) {
+            bytes.insert(0, self.side());
+        }
         if entry == 34 {
             let head = [&mask(&mut self.random).to_le_bytes()[..], &[self.side()]].concat();
             let short = self.random.chance(2);

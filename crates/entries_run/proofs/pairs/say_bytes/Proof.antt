@@ -1,14 +1,14 @@
--- The loop of `say_bytes` ends: it counts to 64.
+-- The loop of `say_bytes` ends: it counts to 160.
 use borrow.Author.Needs.{needs}
 use Prim.Native.Nat.{_≤_, _-_}
 use Rattle.entries_run.proofs.pairs.say_bytes.Statement.{statement}
 use Rattle.entries_run.proofs.pairs.say_bytes.Tie as tie
 
 abbrev Inv-loop : tie.InvT-loop
-Inv-loop bytes k₀ k = k ≤ 64
+Inv-loop bytes k₀ k = k ≤ 160
 
 abbrev μ-loop : tie.MeasureT-loop
-μ-loop bytes k₀ k = 64 - k
+μ-loop bytes k₀ k = 160 - k
 
 loop-holds : tie.Need-loop-holds Inv-loop μ-loop
 loop-holds c = search needs
