@@ -1,7 +1,7 @@
 -- The numbers of a reply and of an explanation, read back.
 use Prim.Native.Nat.{ℕ, zero, suc}
 use mathlib.Core.Path.{_≡_, refl}
-use Rattle.model.specs.Reply.{left, right, both, input, Reply, equal, differs, refused}
+use Rattle.model.specs.Reply.{left, right, both, input, equal, differs, refused}
 use Rattle.comparer.specs.Explain as Explain
 use Rattle.comparer.specs.Explain.{Explanation}
 use Rattle.cabi.specs.Numbers.{NumbersRead, chosenBy, answerNumbers, explanationOf, ExplanationRead}

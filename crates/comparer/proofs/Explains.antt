@@ -9,9 +9,8 @@ use lib.ListN.{length, take, drop, replicate, length-replicate, length-drop}
 use lib.Seq.{drop-drop, take-all}
 use lib.Dec.{leb}
 use borrow.Author.Tests.{le-leb, leb-true}
-use Rattle.model.specs.Test.{if_then_else_}
 use Rattle.model.specs.Update.{Listed}
-use Rattle.model.specs.Memory.{listWords, cellWords, termWords, cleared, workLeft}
+use Rattle.model.specs.Memory.{listWords, cellWords, termWords, workLeft}
 use Rattle.model.specs.Reply.{Reply, equal, differs, refused, left, right, isRefused}
 use Rattle.reader.specs.Field.{littleEndian}
 use Rattle.unroller.specs.Run.{Ran, ok, stop}

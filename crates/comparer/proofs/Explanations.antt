@@ -1,32 +1,29 @@
 -- What an explanation says: the claims about it, and known pairs explained.
-use Prim.Native.Nat.{ℕ, _-_, _≤_}
+use Prim.Native.Nat.{ℕ}
 use mathlib.Core.Path.{_≡_, refl, sym, ap, _∙_, subst}
-use mathlib.Core.Logic.{_⊎_, inl, inr}
-use mathlib.Core.List.{List, [], _∷_}
+use mathlib.Core.Logic.{inl, inr}
+use mathlib.Core.List.{List, []}
 use mathlib.Core.Bool.{Bool, true, false, _&&_}
 use mathlib.Core.Option.{Option, none, some}
 use native.Mathlib.Omega.{arith}
-use lib.ListN.{length, take, drop}
+use lib.ListN.{length, take}
 use lib.Dec.{leb}
-use lib.IntN.{ℤ, pos}
+use lib.IntN.{pos}
 use borrow.Author.Tests.{le-leb}
 use denote.Ref.{RefT, now}
 use Rattle.model.specs.Test.{if_then_else_}
-use Rattle.model.specs.Update.{Listed, written}
+use Rattle.model.specs.Update.{written}
 use Rattle.model.specs.Reply.{Side, both, Reply, equal, differs, refused}
-use Rattle.reader.specs.Entries.{padded}
 use Rattle.reader.proofs.Lists.{take-padded}
-use Rattle.unroller.specs.Run.{ok}
-use Rattle.unroller.specs.Unroll.{unrolled}
 use Rattle.unroller.specs.Executed.{Origin, originOf}
-use Rattle.unroller.specs.Traced.{Traced, stretchOf, WrittenAt}
+use Rattle.unroller.specs.Traced.{stretchOf}
 use Rattle.unroller.proofs.Executed.{traces, written-at, never-written}
 use Rattle.comparer.specs.Entry.{entryReply, programsReply}
 use Rattle.comparer.specs.Explain as Explain
-use Rattle.comparer.specs.Explain.{Chosen, leftSide, rightSide, chosen, Answer, Explanation, plain, explained, byReply, explanation}
+use Rattle.comparer.specs.Explain.{Chosen, chosen, Answer, Explanation, plain, explained, explanation}
 use Rattle.comparer.specs.Claims.{TracedUpdates, WrittenIs, WrittenExplained, StartingIs, StartingExplained, RefusedExplained}
 use Rattle.comparer.specs.ExplainAnswers.{chosenSays, chosenOf, answerSays, explanationSays, inside, Part, IsPart}
-use Rattle.comparer.specs.Carried.{HandedOver, WrittenAnswered, OtherAnswered}
+use Rattle.comparer.specs.Carried.{WrittenAnswered, OtherAnswered}
 use Rattle.comparer.specs.declared.explanation.Chosen as code
 use Rattle.comparer.specs.declared.explanation.Chosen.the-variants as side
 use Rattle.comparer.specs.declared.explanation.Answer as given

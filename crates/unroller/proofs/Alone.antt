@@ -1,6 +1,6 @@
 -- A statement reads the same from its stretch of the bytes alone: what a reader gets does not depend on bytes that it does not pass.
-use mathlib.Core.Path.{_≡_, refl, sym, ap, _∙_, subst}
-use Prim.Native.Nat.{ℕ, zero, suc, _+_, _-_, _*_, _≤_, _<_}
+use mathlib.Core.Path.{_≡_, refl, ap, _∙_, subst}
+use Prim.Native.Nat.{ℕ, zero, suc, _+_, _-_, _≤_, _<_}
 use native.Mathlib.Omega.{arith}
 use mathlib.Core.List.{List, [], _∷_}
 use mathlib.Core.Bool.{Bool, true, false, not}
@@ -10,7 +10,7 @@ use borrow.Author.Tests.{le-leb}
 use Rattle.model.specs.Test.{if_then_else_}
 use Rattle.model.specs.Tables.{Tables, arrayAt}
 use Rattle.reader.specs.Field.{Outcome, got, no, Reader, andThen, ask, refuse, littleEndian, field, byte, u16, u32, i8, i16, times}
-use Rattle.reader.specs.Syntax.{Form, Expr, Exprs, Item}
+use Rattle.reader.specs.Syntax.{Expr}
 use Rattle.reader.specs.Syntax.Exprs.{none, more}
 use Rattle.reader.specs.Grammar.{form, subscripts, index, readOf, literalOf, constantOf, applyOf, node, applied, expression, statementOf}
 use Rattle.reader.proofs.Binds.{not-got, read-by}

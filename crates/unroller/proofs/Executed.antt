@@ -2,34 +2,34 @@
 -- that of the last update that writes it.
 use Prim.Native.Nat.{ℕ, zero, suc, _+_, _-_, _≤_, _<_}
 use mathlib.Core.Path.{_≡_, refl, sym, ap, _∙_, subst}
-use mathlib.Core.Logic.{_⊎_, inl, inr}
+use mathlib.Core.Logic.{inl, inr}
 use mathlib.Core.List.{List, [], _∷_, _++_, append-assoc, append-nil}
 use mathlib.Core.Bool.{Bool, true, false, _&&_, _||_, not, false≢true}
 use mathlib.Core.Option.{Option, none, some}
 use native.Mathlib.Omega.{arith}
 use native.Mathlib.Numerals.{add-one}
-use lib.ListN.{length, getD, take, drop, length-append, length-drop}
+use lib.ListN.{length, getD, drop, length-append, length-drop}
 use lib.Seq.{length-take-le, getD-take, getD-drop}
 use lib.Dec.{leb, eqb}
 use lib.IntN.{ℤ, pos}
 use lib.Signed.{leZ}
 use Rattle.model.specs.Test.{if_then_else_}
 use Rattle.model.specs.Tables.{Tables, arrayAt}
-use Rattle.model.specs.Update.{Tree, Update, Listed, writes, written}
-use Rattle.reader.specs.Field.{Outcome, got, no, Reader, refuse}
+use Rattle.model.specs.Update.{Update, Listed, writes, written}
+use Rattle.reader.specs.Field.{got, refuse}
 use Rattle.reader.specs.Syntax.{Form, Expr, Item, Items, Program, count}
 use Rattle.reader.specs.Syntax.Item.{statement, loop, guard}
 use Rattle.reader.specs.Syntax.Items.{end, item}
 use Rattle.reader.specs.Grammar.{subscripts, index, expression, statementOf, items, itemOf, nested, body, readProgram}
 use Rattle.reader.proofs.Binds.{not-got, read-by, asked-by, choose-by}
 use Rattle.reader.proofs.Forward.{Past, held-got, statement-held}
-use Rattle.unroller.specs.Run.{Ran, ok, stop, _>>=_, ask, valueAt, fits32, worked, cellAt, tree, readable, Done, fits16, update, indices, rounds, run, runs, nothing, runProgram}
+use Rattle.unroller.specs.Run.{Ran, ok, stop, valueAt, fits32, worked, cellAt, tree, readable, Done, fits16, update, indices, rounds, run, runs, nothing, runProgram}
 use Rattle.unroller.specs.Unroll.{unrolled}
-use Rattle.unroller.specs.Executed.{Executed, each, executed, executeds, execution, hits, writesTo, orElse, last, Origin, endIn, endOf, originBy, originAt, originIn, originOf}
-use Rattle.unroller.specs.Traced.{Does, Happens, Traced, Last, Inside, InsideAny, stretchOf, Stretch, WrittenAt}
+use Rattle.unroller.specs.Executed.{Executed, each, executed, executeds, execution, hits, writesTo, orElse, last, Origin, endIn, endOf, originBy, originAt, originOf}
+use Rattle.unroller.specs.Traced.{Does, Happens, Traced, Inside, InsideAny, stretchOf, Stretch, WrittenAt}
 use borrow.Author.Tests.{eqb-true}
 use Rattle.unroller.proofs.Parts.{both}
-use Rattle.unroller.proofs.Runs.{run-by, ask-by, ok-is, unrolls, Unrolls}
+use Rattle.unroller.proofs.Runs.{run-by, ask-by, ok-is, unrolls}
 use Rattle.unroller.proofs.WalkItems.{items-in, items-by, guard-by, loop-by}
 use Rattle.unroller.proofs.UnrollRun.{program-by}
 use Rattle.unroller.proofs.Alone.{Same, same-statement}

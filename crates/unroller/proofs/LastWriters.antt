@@ -1,44 +1,40 @@
 -- The last writer of an element, from a program's tables to the reply.
 use mathlib.Core.Path.{_≡_, refl, sym, ap, ap₂, _∙_, subst}
-use Prim.Native.Nat.{ℕ, _≤_, _<_}
+use Prim.Native.Nat.{ℕ}
 use native.Mathlib.Omega.{arith}
-use mathlib.Core.List.{List, [], _∷_}
+use mathlib.Core.List.{List, []}
 use mathlib.Core.Bool.{Bool, true, false}
 use mathlib.Core.Option.{Option, none, some}
 use lib.ListN.{length, replicate}
 use lib.Dec.{leb, eqb}
-use lib.IntN.{ℤ, pos}
-use borrow.Author.Tests.{ne-eqb, leb-true, leb-false, le-leb, lt-leb}
+use lib.IntN.{pos}
+use borrow.Author.Tests.{ne-eqb}
 use Rattle.model.specs.Test.{if_then_else_}
 use Rattle.model.specs.Tables.{Tables}
 use Rattle.model.specs.Update.{Listed}
-use Rattle.model.specs.Reply.{Side, left, both}
+use Rattle.model.specs.Reply.{left, both}
 use Rattle.model.specs.Memory.{listWords, cleared, workLeft}
-use Rattle.reader.specs.Field.{Outcome, got, no}
-use Rattle.reader.specs.Syntax.{Items, Program}
+use Rattle.reader.specs.Field.{Outcome, no}
+use Rattle.reader.specs.Syntax.{Program}
 use Rattle.reader.specs.Grammar.{body}
-use Rattle.reader.specs.Entries.{padded, TablesAre, tablesStep, tablesIn, flattened}
+use Rattle.reader.specs.Entries.{TablesAre, tablesStep, tablesIn, flattened}
 use Rattle.reader.specs.declared.tables.TablesRead.{TablesRead}
-use Rattle.reader.specs.declared.fields.Place.{Place}
 use Rattle.reader.specs.declared.fields.Place.the-variants as place
 use Rattle.reader.proofs.Flattened.{Words, tables-flat}
 use Rattle.unroller.specs.Run.{Ran, ok, stop, runs, nothing, runProgram}
 use Rattle.unroller.specs.Unroll as Unroll
 use Rattle.unroller.specs.Unroll.{unrolled, unrollReply, unrollReplyBy, unrollLeaves, wordsOf}
 use Rattle.unroller.specs.UnrollAnswers.{unrolledSays}
-use Rattle.unroller.specs.Executed.{executeds, execution, writesTo, orElse, last, Origin, originAt, originOf, originIn}
-use Rattle.unroller.specs.OriginReply.{Told, refused, starting, unwritten, told, toldOf, originReply, originSays, Found}
-use Rattle.unroller.specs.Origins.{Writer, held, writerIs, toldBy, Seen, Passed, Eight, TracesItems}
+use Rattle.unroller.specs.Executed.{executeds, execution, writesTo, last, Origin, originAt, originOf, originIn}
+use Rattle.unroller.specs.OriginReply.{Told, refused, unwritten, told, toldOf, originReply, originSays, Found}
+use Rattle.unroller.specs.Origins.{Writer, writerIs, toldBy, Seen, TracesItems}
 use Rattle.unroller.specs.declared.entry.Unrolled.{Unrolled}
 use Rattle.unroller.specs.declared.entry.Unrolled.the-variants as variants
 use Rattle.unroller.specs.declared.origins.Origin.{Origin as Answer}
 use Rattle.unroller.proofs.Runs.{unrolls}
 use Rattle.unroller.proofs.UnrollRun.{program-by, read-not, read-tables, read-first}
 use Rattle.unroller.proofs.Executed.{written-at}
-
-or-none : {A : Type 0} (x : Option A) → orElse x none ≡ x
-or-none (some a) = refl
-or-none none = refl
+use Rattle.unroller.proofs.Traces.{or-none}
 
 -- ---- from the tables to the writer
 module _ (s : List ℕ) (r : TablesRead) (are : TablesAre (tablesStep s) r) (a e : ℕ) where

@@ -1,23 +1,23 @@
 -- The walk for an element's last writer: a law for each step of the code.
-use mathlib.Core.Path.{_≡_, refl, sym, ap, ap₂, _∙_, subst}
-use Prim.Native.Nat.{ℕ, zero, suc, _+_, _-_, _≤_, _<_}
+use mathlib.Core.Path.{_≡_, refl, sym, ap, _∙_, subst}
+use Prim.Native.Nat.{ℕ, suc, _+_, _≤_, _<_}
 use native.Mathlib.Omega.{arith}
 use native.Mathlib.Numerals.{add-one}
 use mathlib.Core.List.{List, [], _∷_, _++_}
-use mathlib.Core.Bool.{Bool, true, false, _&&_, false≢true}
+use mathlib.Core.Bool.{Bool, true, false, _&&_}
 use mathlib.Core.Option.{Option, none, some}
-use lib.ListN.{length, getD, take, set, replicate, length-set}
+use lib.ListN.{length, getD, take, set, length-set}
 use lib.Seq.{take-suc-set, length-take-le}
-use lib.Dec.{eqb, leb, leb·zero}
-use lib.IntN.{ℤ, pos, negsuc, _+ℤ_}
+use lib.Dec.{eqb, leb}
+use lib.IntN.{ℤ, pos}
 use lib.Signed.{leZ, ltZ}
-use borrow.Author.Tests.{ne-eqb, le-leb, ltb-true}
+use borrow.Author.Tests.{ne-eqb, le-leb}
 use Rattle.model.specs.Test.{if_then_else_}
-use Rattle.model.specs.Tables.{Tables, arrayAt}
-use Rattle.reader.specs.Field.{Outcome, got, no, Reader, times}
+use Rattle.model.specs.Tables.{Tables}
+use Rattle.reader.specs.Field.{Outcome, got, Reader}
 use Rattle.reader.specs.Syntax.{Form, Expr, Item, Items, count}
 use Rattle.reader.specs.Syntax.Item.{statement, loop, guard}
-use Rattle.reader.specs.Syntax.Items.{end, item}
+use Rattle.reader.specs.Syntax.Items.{item}
 use Rattle.reader.specs.Grammar.{form, step, subscripts, index, expression, statementOf, itemOf, nested, items, body}
 use Rattle.reader.specs.Answers.{fieldSays, placeSays, through, ended}
 use Rattle.reader.specs.Entries.{padded, itemsStep, expressionStep}
@@ -28,11 +28,11 @@ use Rattle.reader.specs.declared.fields.Place.the-variants as place
 use Rattle.reader.proofs.Binds.{not-got}
 use Rattle.reader.proofs.Forward.{held-got, index-held}
 use Rattle.reader.proofs.Lists.{padded-set}
-use Rattle.unroller.specs.Run.{Ran, ok, stop, _>>=_, ask, valueAt, worked, fits16, Done, goesOn, indices, rounds, run, runs, update, cellFrom, cellAt, tree, readable}
+use Rattle.unroller.specs.Run.{Ran, ok, valueAt, worked, fits16, Done, goesOn, indices, rounds, run, runs, update, cellAt}
 use Rattle.unroller.specs.Forms.{ValueIs, Values}
 use Rattle.unroller.specs.WalkItems.{Ends, within16, ranged, RangeIs, Ranges}
 use Rattle.unroller.specs.Writes.{CellIs, CellsFrom, CellOf}
-use Rattle.unroller.specs.Executed.{Executed, each, executed, executeds, hits, writesTo, orElse, last, Origin, endIn, endOf, originAt}
+use Rattle.unroller.specs.Executed.{Executed, each, executed, executeds, writesTo, orElse, last, Origin, endIn, endOf, originAt}
 use Rattle.unroller.specs.Origins.{Writer, held, writerIs, Seen, Passed, Eight, PastIs, TracesStatement, TracesItem, TracesItems, TracesNested, TracesRound, TracesRounds, Finds}
 use Rattle.unroller.specs.declared.forms.Valued.{Valued}
 use Rattle.unroller.specs.declared.forms.Valued.the-variants as valued
@@ -40,15 +40,15 @@ use Rattle.unroller.specs.declared.items.Range.{Range}
 use Rattle.unroller.specs.declared.items.Range.the-variants as range
 use Rattle.unroller.specs.declared.statement.Cell.{Cell}
 use Rattle.unroller.specs.declared.statement.Cell.the-variants as cell
-use Rattle.unroller.proofs.Runs.{run-by, ask-by, ok-is}
+use Rattle.unroller.proofs.Runs.{run-by, ask-by}
 use Rattle.unroller.proofs.Indices.{indices-none}
-use Rattle.unroller.proofs.WalkForward.{item-forward}
-use Rattle.unroller.proofs.WalkItems.{items-in, items-by, guard-by, loop-by}
+use Rattle.unroller.proofs.WalkForward.{item-forward, told}
+use Rattle.unroller.proofs.WalkItems.{items-in, items-by, sign-true, sign-false, guard-by, loop-by}
 use Rattle.unroller.proofs.Executed.{worked-is, statement-by}
 
 -- ---- the last of two rows of statements
 module _ {A : Type 0} where
-  or-none : (x : Option A) → orElse x none ≡ x
+  pub or-none : (x : Option A) → orElse x none ≡ x
   or-none (some a) = refl
   or-none none = refl
 
@@ -149,14 +149,6 @@ module _ (s : List ℕ) (t : Tables) (left loops : ℕ) (is : List ℤ) (a e at 
         no-nested e = not-got e
 
 -- ---- guards
-sign-true : (v : ℤ) → ltZ v (pos 0) ≡ false → leZ (pos 0) v ≡ true
-sign-true (pos n) e = leb·zero n
-sign-true (negsuc n) e = absurd (false≢true (sym e))
-
-sign-false : (v : ℤ) → ltZ v (pos 0) ≡ true → leZ (pos 0) v ≡ false
-sign-false (pos n) e = absurd (omega (arith, ltb-true n 0 e))
-sign-false (negsuc n) e = refl
-
 -- a form that was worked out, as the code answers it
 value-of : (m : Ran ℤ) (v : ℤ) (mid : ℕ) (u : ℤ) (to : ℕ) → m ≡ ok v → ValueIs m mid (valued.Is u to) → (u ≡ v) × (to ≡ mid)
 value-of m v mid u to q h = subst (λ (m : Ran ℤ). ValueIs m mid (valued.Is u to)) q h
@@ -288,21 +280,15 @@ module _ (s : List ℕ) (from : ℕ) (t : Tables) (left loops : ℕ) (is : List 
 
 -- ---- items that do not run
 module _ (s : List ℕ) (at : ℕ) (t : Tables) (left loops : ℕ) (p₀ : Place) (says : placeSays p₀ ≡ ended (itemsStep t left loops s at)) where
-  told : (js : Items) (next : ℕ) → body t (length s) left loops s at ≡ got js next → loops + left ≤ 8 → placeSays p₀ ≡ got 0 next
-  unfolding itemsStep through
-  told js next e h =
-      let q : itemsStep t left loops s at ≡ got js next = rw (le-leb (loops + left) 8 h) e in
-      says ∙ ap (λ (m : Outcome Items). ended m) q
-
   pub finds-next : (to : ℕ) → p₀ ≡ place.Next to → Finds s at t left loops to
   unfolding Finds
   finds-next to case js next e h =
-      let g : _≡_ {A = Outcome ℕ} (got 0 to) (got 0 next) = sym (ap placeSays case) ∙ told js next e h in
+      let g : _≡_ {A = Outcome ℕ} (got 0 to) (got 0 next) = sym (ap placeSays case) ∙ told s at t left loops p₀ says js next e h in
       cc
 
   pub finds-not : (k q : ℕ) → p₀ ≡ place.Not k q → (n : ℕ) → Finds s at t left loops n
   unfolding Finds
-  finds-not k q case n js next e h = not-got (sym (ap placeSays case) ∙ told js next e h)
+  finds-not k q case n js next e h = not-got (sym (ap placeSays case) ∙ told s at t left loops p₀ says js next e h)
 
 -- ---- a statement
 module _ (s : List ℕ) (t : Tables) (loops : ℕ) (is : List ℤ) (a e at : ℕ) (w : Writer) where

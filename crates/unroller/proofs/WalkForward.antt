@@ -23,19 +23,19 @@ pub item-forward : (s : List ℕ) (t : Tables) (left loops code at : ℕ) {i : I
     → itemOf t (length s) (nested t (length s) left loops) loops code at s (at + 1) ≡ got i next → at < next
 item-forward s t left loops code at h e = let k = held-got (Past s (at + 1)) (items-of-held s t (length s) left loops code at (at + 1) (omega arith)) e in omega arith
 
-module _ (s : List ℕ) (at : ℕ) (t : Tables) (left loops : ℕ) (p : Progress) (r₀ : Place) (says : placeSays r₀ ≡ ended (itemsStep t left loops s at)) where
-  told : (js : Items) (next : ℕ) → body t (length s) left loops s at ≡ got js next → loops + left ≤ 8 → placeSays r₀ ≡ got 0 next
+module _ (s : List ℕ) (at : ℕ) (t : Tables) (left loops : ℕ) (r₀ : Place) (says : placeSays r₀ ≡ ended (itemsStep t left loops s at)) where
+  pub told : (js : Items) (next : ℕ) → body t (length s) left loops s at ≡ got js next → loops + left ≤ 8 → placeSays r₀ ≡ got 0 next
   unfolding through
   told js next e h = says ∙ ap (λ (m : Outcome Items). ended m) (items-shallow s at t left loops h ∙ e)
 
-  pub passes-on : (to : ℕ) → r₀ ≡ place.Next to → Passes s at t left loops p (on to p)
+  pub passes-on : (p : Progress) (to : ℕ) → r₀ ≡ place.Next to → Passes s at t left loops p (on to p)
   unfolding Passes
-  passes-on to case js next e h =
+  passes-on p to case js next e h =
       let g : _≡_ {A = Outcome ℕ} (got 0 to) (got 0 next) = sym (ap placeSays case) ∙ told js next e h in
       let x : to ≡ next = cc in
       ap (λ (n : ℕ). on n p) x
 
-  pub passes-not : (k q : ℕ) → r₀ ≡ place.Not k q → Passes s at t left loops p (walk.No k q)
+  pub passes-not : (p : Progress) (k q : ℕ) → r₀ ≡ place.Not k q → Passes s at t left loops p (walk.No k q)
   unfolding Passes
-  passes-not k q case js next e h =
+  passes-not p k q case js next e h =
       absurd (let g : _≡_ {A = Outcome ℕ} (no k q) (got 0 next) = sym (ap placeSays case) ∙ told js next e h in let z : _≡_ {A = ℕ} 0 1 = cc in omega arith)

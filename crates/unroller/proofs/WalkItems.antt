@@ -193,15 +193,21 @@ guarded js t is d v = elim (leZ (pos 0) v) as (λ b. Ran Done) [ true ↦ runs j
 chosen : Items → Tables → List ℤ → Done → Bool → Ran Done
 chosen js t is d z = elim z as (λ b. Ran Done) [ true ↦ runs js t is d | false ↦ ok d ]
 
+pub sign-true : (v : ℤ) → ltZ v (pos 0) ≡ false → leZ (pos 0) v ≡ true
+sign-true (pos n) e = leb·zero n
+sign-true (negsuc n) e = absurd (false≢true (sym e))
+
+pub sign-false : (v : ℤ) → ltZ v (pos 0) ≡ true → leZ (pos 0) v ≡ false
+sign-false (pos n) e = absurd (omega (arith, ltb-true n 0 e))
+sign-false (negsuc n) e = refl
+
 guarded-runs : (js : Items) (t : Tables) (is : List ℤ) (d : Done) (v : ℤ) → ltZ v (pos 0) ≡ false → guarded js t is d v ≡ runs js t is d
 unfolding guarded chosen
-guarded-runs js t is d (pos n) e = ap (chosen js t is d) (leb·zero n)
-guarded-runs js t is d (negsuc n) e = absurd (false≢true (sym e))
+guarded-runs js t is d v e = ap (chosen js t is d) (sign-true v e)
 
 guarded-passes : (js : Items) (t : Tables) (is : List ℤ) (d : Done) (v : ℤ) → ltZ v (pos 0) ≡ true → guarded js t is d v ≡ ok d
-unfolding guarded
-guarded-passes js t is d (pos n) e = absurd (omega (arith, ltb-true n 0 e))
-guarded-passes js t is d (negsuc n) e = refl
+unfolding guarded chosen
+guarded-passes js t is d v e = ap (chosen js t is d) (sign-false v e)
 
 -- a guard or a loop taken apart, where loops and guards may nest `less` deep inside it
 module _ (s : List ℕ) (t : Tables) (left less loops at : ℕ) (fewer : left ≡ suc less) where

@@ -1,6 +1,4 @@
 use borrow.Author.Needs.{needs}
-use native.Mathlib.Omega.{arith}
-use mathlib.Core.Path.{refl}
 use Rattle.comparer.proofs.Writing.{equal-begins, differs-begins, refused-begins}
 use Rattle.comparer.proofs.line.words.Statement.{statement}
 use Rattle.comparer.proofs.line.words.Tie as tie
