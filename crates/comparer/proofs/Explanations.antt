@@ -1,27 +1,31 @@
 -- What an explanation says: the claims about it, and known pairs explained.
-use Prim.Native.Nat.{ℕ}
+use Prim.Native.Nat.{ℕ, _≤_}
 use mathlib.Core.Path.{_≡_, refl, sym, ap, _∙_, subst}
 use mathlib.Core.Logic.{inl, inr}
 use mathlib.Core.List.{List, []}
 use mathlib.Core.Bool.{Bool, true, false, _&&_}
 use mathlib.Core.Option.{Option, none, some}
 use native.Mathlib.Omega.{arith}
-use lib.ListN.{length, take}
+use lib.ListN.{length, take, drop, length-drop}
+use lib.Seq.{take-all}
 use lib.Dec.{leb}
 use lib.IntN.{pos}
-use borrow.Author.Tests.{le-leb}
+use borrow.Author.Tests.{le-leb, leb-true}
 use denote.Ref.{RefT, now}
 use Rattle.model.specs.Test.{if_then_else_}
-use Rattle.model.specs.Update.{written}
-use Rattle.model.specs.Reply.{Side, both, Reply, equal, differs, refused}
+use Rattle.model.specs.Update.{Listed, written}
+use Rattle.model.specs.Reply.{Side, left, both, input, Reply, equal, differs, refused}
+use Rattle.reader.specs.Field.{littleEndian}
 use Rattle.reader.proofs.Lists.{take-padded}
+use Rattle.reader.proofs.Numbers.{by-order}
+use Rattle.unroller.specs.Run.{Ran, ok, stop}
 use Rattle.unroller.specs.Executed.{Origin, originOf}
 use Rattle.unroller.specs.Traced.{stretchOf}
 use Rattle.unroller.proofs.Executed.{traces, written-at, never-written}
-use Rattle.comparer.specs.Entry.{entryReply, programsReply}
+use Rattle.comparer.specs.Entry.{entryReply, programsReply, allBits, leftIn, rightIn, inputReply}
 use Rattle.comparer.specs.Explain as Explain
-use Rattle.comparer.specs.Explain.{Chosen, chosen, Answer, Explanation, plain, explained, explanation}
-use Rattle.comparer.specs.Claims.{TracedUpdates, WrittenIs, WrittenExplained, StartingIs, StartingExplained, RefusedExplained}
+use Rattle.comparer.specs.Explain.{Chosen, rightSide, chosen, Answer, Explanation, plain, explained, byReply, explanation, inputExplanation}
+use Rattle.comparer.specs.Claims.{TracedUpdates, WrittenIs, WrittenExplained, StartingIs, StartingExplained, RefusedExplained, InputExplained, ExplainedCut}
 use Rattle.comparer.specs.ExplainAnswers.{chosenSays, chosenOf, answerSays, explanationSays, inside, Part, IsPart}
 use Rattle.comparer.specs.Carried.{WrittenAnswered, OtherAnswered}
 use Rattle.comparer.specs.declared.explanation.Chosen as code
@@ -29,6 +33,7 @@ use Rattle.comparer.specs.declared.explanation.Chosen.the-variants as si
 use Rattle.comparer.specs.declared.explanation.Answer as given
 use Rattle.comparer.specs.declared.explanation.Answer.the-variants as answer
 use Rattle.comparer.specs.declared.explanation.Explanation.{Explanation as Given}
+use Rattle.comparer.proofs.Input.{too-long, input-cut, unrefused}
 use Rattle.comparer.proofs.Explains.{differs-unrolls}
 
 pub traced-updates : TracedUpdates
@@ -116,6 +121,44 @@ refused-explained long mask side l r s k p h =
     go : (b c : ℕ) (o : Option Origin) → explained b c o .answer ≡ Explain.refused s k p → ⊥
     go b c none y = absurd (let z : _≡_ {A = ℕ} 0 1 = cc in omega arith)
     go b c (some o) y = absurd (let z : _≡_ {A = ℕ} 0 1 = cc in omega arith)
+
+-- ---- framed input
+pub input-explained : InputExplained
+unfolding inputExplanation explanation
+input-explained long side s h = ap (λ (m : Reply). byReply (originOf (chosen side (leftIn s) (rightIn s))) (entryReply long m)) (unrefused s h)
+
+-- an input with a difference holds no more bytes than both programs may have
+differs-short : (s : List ℕ) (a e : ℕ) → inputReply s ≡ differs a e → length s ≤ 32771
+unfolding inputReply
+differs-short s a e h = go (leb 2 (length s)) (leb (littleEndian 2 s 0) 16384) refl (leb (littleEndian 2 s 0) (length (drop 2 s))) h
+  where
+    right-short : littleEndian 2 s 0 ≤ 16384 → programsReply allBits (leftIn s) (rightIn s) ≡ differs a e → length s ≤ 32771
+    right-short k q =
+        let n = length-drop 2 s in
+        let m = length-drop (littleEndian 2 s 0) (drop 2 s) in
+        by-order (length (rightIn s)) 16384 (λ w. omega arith) λ w.
+        let u = differs-unrolls allBits rightSide (leftIn s) (rightIn s) a e q in
+        let x : _≡_ {A = Ran Listed} (stop 2 0) (ok (u .0)) = sym (too-long (rightIn s) w) ∙ u .1 in
+        absurd (let z : _≡_ {A = ℕ} 0 1 = cc in omega arith)
+
+    go : (b c : Bool) → leb (littleEndian 2 s 0) 16384 ≡ c → (d : Bool)
+        → (if b then (if c then (if d then programsReply allBits (leftIn s) (rightIn s) else refused input 1 0) else refused left 2 0) else refused input 1 0) ≡ differs a e → length s ≤ 32771
+    go true true w true q = right-short (leb-true (littleEndian 2 s 0) 16384 w) q
+    go true true w false q = absurd (let z : _≡_ {A = ℕ} 0 1 = cc in omega arith)
+    go true false w d q = absurd (let z : _≡_ {A = ℕ} 0 1 = cc in omega arith)
+    go false c w d q = absurd (let z : _≡_ {A = ℕ} 0 1 = cc in omega arith)
+
+pub explained-cut : ExplainedCut
+unfolding inputExplanation
+explained-cut long side s =
+    ap (λ (m : Reply). byReply (originOf (chosen side (leftIn (take 32771 s)) (rightIn (take 32771 s)))) (entryReply long m)) (input-cut s) ∙ go long (inputReply s) refl
+  where
+    go : (b : Bool) (m : Reply) → inputReply s ≡ m
+        → byReply (originOf (chosen side (leftIn (take 32771 s)) (rightIn (take 32771 s)))) (entryReply b m) ≡ byReply (originOf (chosen side (leftIn s) (rightIn s))) (entryReply b m)
+    go false m h = refl
+    go true (equal n) h = refl
+    go true (refused t k p) h = refl
+    go true (differs a e) h = ap (λ (s : List ℕ). explained a e (originOf (chosen side (leftIn s) (rightIn s)) a e)) (take-all 32771 s (differs-short s a e h))
 
 -- ---- carried to what the code answers
 now-chosen : (x : code.Chosen) (one other : RefT (List ℕ)) → now (chosenOf x one other) ≡ chosenOf x (now one) (now other)

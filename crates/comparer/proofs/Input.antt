@@ -28,7 +28,7 @@ framed-programs l r h =
     rw (le-leb 2 (length (framed l r)) (omega arith), n, le-leb (length l) 16384 h, le-leb (length l) (length (l ++ r)) (omega arith), take-append-seam l r, drop-append-seam l r)
 
 -- a program that is too long is refused with 2
-too-long : (s : List ℕ) → 16384 < length s → unrolled s ≡ stop 2 0
+pub too-long : (s : List ℕ) → 16384 < length s → unrolled s ≡ stop 2 0
 unfolding unrolled readProgram
 too-long s h = rw (lt-leb (length s) 16384 h)
 

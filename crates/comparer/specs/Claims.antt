@@ -21,7 +21,7 @@ use Rattle.comparer.specs.Meaning.{Meaning, Content, valueOf, after, fre
 use Rattle.comparer.specs.Match.{comparedSize, listsReply}
 use Rattle.comparer.specs.Entry.{entryReply, wordsReply, programsReply, allBits, leftIn, rightIn, inputReply}
 use Rattle.comparer.specs.Explain as Explain
-use Rattle.comparer.specs.Explain.{Chosen, chosen, Explanation, plain, explained, explanation}
+use Rattle.comparer.specs.Explain.{Chosen, chosen, Explanation, plain, explained, explanation, inputExplanation}
 use Rattle.comparer.specs.Line.{lineOf}
 use Rattle.comparer.specs.ExplainLine.{explanationLine}
 use Rattle.comparer.specs.Told.{Compared, Shared, Agree, Told}
@@ -167,6 +167,15 @@ RefusedExplained =
     → (explanation long mask side one other ≡ plain (Explain.refused s k p))
     × ((entryReply long (programsReply mask one other) ≡ Reply.refused s k p)
     ⊎ ((n : ℕ) × (entryReply long (programsReply mask one other) ≡ equal n) × (s ≡ both) × (k ≡ 27) × (p ≡ 0)))
+
+-- Of framed input that is not refused, the explanation is that of its two programs.
+abbrev pub InputExplained : Type 0
+InputExplained =
+    (long : Bool) (side : Chosen) (s : List ℕ) → isRefused (inputReply s) ≡ false → inputExplanation long side s ≡ explanation long allBits side (leftIn s) (rightIn s)
+
+-- No input is explained otherwise for being cut behind byte 32,771, which is what the program reads.
+abbrev pub ExplainedCut : Type 0
+ExplainedCut = (long : Bool) (side : Chosen) (s : List ℕ) → inputExplanation long side (take 32771 s) ≡ inputExplanation long side s
 
 -- Known pairs explained, each with its line as docs/FORMAT.md prints it.
 abbrev pub ExplainedRows : Type 0
