@@ -23,6 +23,7 @@ use Rattle.unroller.proofs.Encode.{decode-layout}
 use Rattle.unroller.proofs.Inverse.{layout-decode, layout-injective as injective}
 use Rattle.unroller.proofs.Laws.{accepted-sound, accepted-complete, layout-length, decoded-fit, layout-same}
 use Rattle.unroller.proofs.Accepted.{unrolled-allowed as allowed-run}
+use Rattle.unroller.proofs.Fits.{indices-fit as index-values-fit, forms-bounded, forms-fit as forms-in-32}
 use Rattle.unroller.proofs.Runs.{unrolled-last, unrolled-reads}
 use Rattle.model.specs.Update.Tree.{cell}
 use Rattle.terms.specs.Term.{termCount}
@@ -32,7 +33,7 @@ use Rattle.comparer.specs.Match.{comparedSize, firstDifference, agreeAt,
 use Rattle.comparer.specs.Entry.{decodedReply, enough, entryReply, wordsReply, sideReply, programsReply}
 use Rattle.comparer.specs.Told.{Shared, Told}
 use Rattle.comparer.specs.Order.{NewOrder, reorder}
-use Rattle.comparer.specs.Claims.{Demand2Lists, ToldOf, Demand2Words, Demand2Programs, Kept, Demand3, LayoutRead, LayoutOnly, LayoutInjective, LayoutFits, Question26, UnrolledAllowed, FreeStandsForAll, NeverApartFromItself}
+use Rattle.comparer.specs.Claims.{Demand2Lists, ToldOf, Demand2Words, Demand2Programs, Kept, Demand3, LayoutRead, LayoutOnly, LayoutInjective, LayoutFits, Question26, UnrolledAllowed, IndicesFit, FormsSmall, FormsFit, FreeStandsForAll, NeverApartFromItself}
 use Rattle.comparer.proofs.Values.{meaning-of-value}
 use Rattle.comparer.proofs.Alike.{after-alike}
 use Rattle.comparer.proofs.SameTables.{same-numbers, started-shared}
@@ -63,6 +64,15 @@ question26 w = (accepted-sound w, λ p. subst (λ (v : List ℕ). accepted v ≡
 
 pub unrolled-allowed : UnrolledAllowed
 unrolled-allowed = allowed-run
+
+pub indices-fit : IndicesFit
+indices-fit = index-values-fit
+
+pub forms-small : FormsSmall
+forms-small f is n h = let b = forms-bounded _ f is n h in omega arith
+
+pub forms-fit : FormsFit
+forms-fit = forms-in-32
 
 pub free-stands-for-all : FreeStandsForAll
 free-stands-for-all S m h t σ = meaning-of-value m h t σ

@@ -7,14 +7,18 @@ use mathlib.Core.List.{List, map}
 use mathlib.Core.Bool.{Bool, true, false, _||_, not}
 use mathlib.Core.Option.{some}
 use lib.ListN.{length, getD, take}
+use lib.IntN.{ℤ, natAbs}
+use Rattle.model.specs.Test.{every}
 use Rattle.model.specs.Tables.{arrayAt, local}
 use Rattle.model.specs.Update.{Tree, Listed, written}
 use Rattle.model.specs.Reply.{Reply, equal, isRefused, Side, both}
-use Rattle.unroller.specs.Run.{ok}
+use Rattle.reader.specs.Syntax.{Form}
+use Rattle.unroller.specs.Run.{ok, valueAt, signed, fits16, fits32, indices}
 use Rattle.unroller.specs.Allowed.{allowed}
 use Rattle.unroller.specs.Layout.{layout}
 use Rattle.unroller.specs.Decode.{decode, accepted}
 use Rattle.unroller.specs.Unroll.{unrolled}
+use Rattle.unroller.specs.Fits.{narrow}
 use Rattle.unroller.specs.Executed.{Origin}
 use Rattle.unroller.specs.Traced.{Traced, WrittenAt}
 use Rattle.comparer.specs.Meaning.{Meaning, Content, valueOf, after, free}
@@ -96,6 +100,18 @@ Question26 = (w : List ℕ) → (accepted w ≡ true) ↔ ((l : Listed) × (allo
 -- Every list that a program unrolls to is allowed, so its layout is accepted.
 abbrev pub UnrolledAllowed : Type 0
 UnrolledAllowed = (bytes : List ℕ) (l : Listed) → ((i : ℕ) → getD bytes i 0 < 256) → unrolled bytes ≡ ok l → allowed l ≡ true
+
+-- Each index value of a loop whose start and end passed 15 lies in 16 signed bits, whatever the step.
+abbrev pub IndicesFit : Type 0
+IndicesFit = (most : ℕ) (step first last : ℤ) → fits16 first ≡ true → fits16 last ≡ true → every fits16 (indices most step last first) ≡ true
+
+-- A form that a file can hold, at such index values, is at most 32,768 + 8 times 128 times 32,768 in size,
+abbrev pub FormsSmall : Type 0
+FormsSmall = (f : Form) (is : List ℤ) → narrow f ≡ true → every (signed 32767) is ≡ true → natAbs (valueAt f is) ≤ 33587200
+
+-- and so in 32 signed bits.
+abbrev pub FormsFit : Type 0
+FormsFit = (f : Form) (is : List ℤ) → narrow f ≡ true → every fits16 is ≡ true → fits32 (valueAt f is) ≡ true
 
 -- No input is answered otherwise for being cut behind byte 32,771, which is what the program reads.
 abbrev pub InputCut : Type 0

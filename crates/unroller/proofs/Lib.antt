@@ -3,6 +3,7 @@ pub mod Encode
 pub mod Inverse
 pub mod Laws
 pub mod Runs
+pub mod Fits
 pub mod Accepted
 mod Sums
 pub mod Values

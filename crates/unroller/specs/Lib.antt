@@ -5,6 +5,7 @@ pub mod Allowed
 pub mod Layout
 pub mod Decode
 pub mod Unroll
+pub mod Fits
 pub mod State
 pub mod CheckAnswers
 pub mod Stands

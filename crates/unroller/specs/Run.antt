@@ -39,9 +39,13 @@ products (c ∷ cs) (i ∷ is) = c *ℤ i +ℤ products cs is
 abbrev pub valueAt : Form → List ℤ → ℤ
 valueAt f is = f .constant +ℤ products (f .coefficients) is
 
--- fits in 32 signed bits
+-- at least −m − 1 and at most m
+abbrev pub signed : ℕ → ℤ → Bool
+signed m z = leZ (negsuc m) z && leZ z (pos m)
+
+-- lies in 32 signed bits
 abbrev pub fits32 : ℤ → Bool
-fits32 z = leZ (negsuc 2147483647) z && leZ z (pos 2147483647)
+fits32 = signed 2147483647
 
 -- the value of a form, for the item whose code stands at p
 unfoldable pub worked : ℕ → List ℤ → Form → Ran ℤ
@@ -136,7 +140,7 @@ rounds (i ∷ is) p body d = do
 
 -- lies in 16 signed bits
 abbrev pub fits16 : ℤ → Bool
-fits16 z = leZ (negsuc 32767) z && leZ z (pos 32767)
+fits16 = signed 32767
 
 unfoldable mutual
   pub run : Item → Tables → List ℤ → Done → Ran Done
