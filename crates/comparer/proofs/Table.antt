@@ -30,7 +30,7 @@ use Rattle.comparer.specs.Claims.{StarredRows, ExplainedRows}
 use Rattle.comparer.proofs.Input.{framed-programs}
 
 rows-programs : (any : List ℕ) → map (λ (x : Row). lineOf (programsReply allBits (x .one) (x .other any))) starred ≡ map (λ (x : Row). x .line) starred
-unfolding field byte u16 u32 i8 i16 times Grammar.head Grammar.arity Grammar.operators Grammar.extent Grammar.array Grammar.arrays Grammar.tables Grammar.form Grammar.subscripts Grammar.index Grammar.readOf Grammar.literalOf Grammar.constantOf Grammar.applyOf Grammar.node Grammar.applied Grammar.expression Grammar.statementOf Grammar.step Grammar.loopOf Grammar.guardOf Grammar.items Grammar.itemOf Grammar.nested Grammar.body Grammar.program Grammar.readProgram Run.worked Run.cellFrom Run.cellAt Run.tree Run.trees count counts Run.readable Run.readables Run.update Run.indices Run.rounds Run.run Run.runs runProgram unrolled same sames parts partsOf termCount valueOf valuesOf listsReply programsReply lineOf
+unfolding field byte u16 u32 i8 i16 times Grammar.head Grammar.arity Grammar.operators Grammar.extent Grammar.array Grammar.arrays Grammar.tables Grammar.form Grammar.subscripts Grammar.index Grammar.readOf Grammar.literalOf Grammar.constantOf Grammar.applyOf Grammar.node Grammar.applied Grammar.expression Grammar.statementOf Grammar.step Grammar.loopOf Grammar.guardOf Grammar.items Grammar.itemOf Grammar.nested Grammar.body Grammar.program Grammar.readProgram Run.cellFrom Run.cellAt Run.tree Run.trees count counts Run.readable Run.readables Run.update Run.indices Run.rounds Run.run Run.runs runProgram unrolled same sames parts partsOf termCount valueOf valuesOf listsReply programsReply lineOf
 rows-programs any = refl
 
 -- every left side is within its limit
@@ -48,7 +48,7 @@ pub starred-rows : StarredRows
 starred-rows any = framed-all any starred all-short ∙ rows-programs any
 
 pub explained-rows : ExplainedRows
-unfolding field byte u16 u32 i8 i16 times Grammar.head Grammar.arity Grammar.operators Grammar.extent Grammar.array Grammar.arrays Grammar.tables Grammar.form Grammar.subscripts Grammar.index Grammar.readOf Grammar.literalOf Grammar.constantOf Grammar.applyOf Grammar.node Grammar.applied Grammar.expression Grammar.statementOf Grammar.step Grammar.loopOf Grammar.guardOf Grammar.items Grammar.itemOf Grammar.nested Grammar.body Grammar.program Grammar.readProgram Run.worked Run.cellFrom Run.cellAt Run.tree Run.trees count counts Run.readable Run.readables Run.update Run.indices Run.rounds Run.run Run.runs runProgram unrolled same sames parts partsOf termCount valueOf valuesOf listsReply programsReply lineOf explanation originOf endOf writesTo execution executed executeds explanationLine
+unfolding field byte u16 u32 i8 i16 times Grammar.head Grammar.arity Grammar.operators Grammar.extent Grammar.array Grammar.arrays Grammar.tables Grammar.form Grammar.subscripts Grammar.index Grammar.readOf Grammar.literalOf Grammar.constantOf Grammar.applyOf Grammar.node Grammar.applied Grammar.expression Grammar.statementOf Grammar.step Grammar.loopOf Grammar.guardOf Grammar.items Grammar.itemOf Grammar.nested Grammar.body Grammar.program Grammar.readProgram Run.cellFrom Run.cellAt Run.tree Run.trees count counts Run.readable Run.readables Run.update Run.indices Run.rounds Run.run Run.runs runProgram unrolled same sames parts partsOf termCount valueOf valuesOf listsReply programsReply lineOf explanation originOf endOf writesTo execution executed executeds explanationLine
 explained-rows = refl
 
 -- an in array and an out array of two cells each, and an operator of two arguments

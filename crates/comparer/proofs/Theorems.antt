@@ -24,6 +24,7 @@ use Rattle.unroller.proofs.Inverse.{layout-decode, layout-injective as injectiv
 use Rattle.unroller.proofs.Laws.{accepted-sound, accepted-complete, layout-length, decoded-fit, layout-same}
 use Rattle.unroller.proofs.Accepted.{unrolled-allowed as allowed-run}
 use Rattle.unroller.proofs.Fits.{indices-fit as index-values-fit, forms-bounded, forms-fit as forms-in-32}
+use Rattle.unroller.proofs.Question21.{run-question21, unrolled-question21}
 use Rattle.unroller.proofs.Runs.{unrolled-last, unrolled-reads}
 use Rattle.model.specs.Update.Tree.{cell}
 use Rattle.terms.specs.Term.{termCount}
@@ -33,7 +34,7 @@ use Rattle.comparer.specs.Match.{comparedSize, firstDifference, agreeAt,
 use Rattle.comparer.specs.Entry.{decodedReply, enough, entryReply, wordsReply, sideReply, programsReply}
 use Rattle.comparer.specs.Told.{Shared, Told}
 use Rattle.comparer.specs.Order.{NewOrder, reorder}
-use Rattle.comparer.specs.Claims.{Demand2Lists, ToldOf, Demand2Words, Demand2Programs, Kept, Demand3, LayoutRead, LayoutOnly, LayoutInjective, LayoutFits, Question26, UnrolledAllowed, IndicesFit, FormsSmall, FormsFit, FreeStandsForAll, NeverApartFromItself}
+use Rattle.comparer.specs.Claims.{Demand2Lists, ToldOf, Demand2Words, Demand2Programs, Kept, Demand3, LayoutRead, LayoutOnly, LayoutInjective, LayoutFits, Question26, UnrolledAllowed, IndicesFit, FormsSmall, FormsFit, Question21, RepliesWithout21, FreeStandsForAll, NeverApartFromItself}
 use Rattle.comparer.proofs.Values.{meaning-of-value}
 use Rattle.comparer.proofs.Alike.{after-alike}
 use Rattle.comparer.proofs.SameTables.{same-numbers, started-shared}
@@ -73,6 +74,14 @@ forms-small f is n h = let b = forms-bounded _ f is n h in omega arith
 
 pub forms-fit : FormsFit
 forms-fit = forms-in-32
+
+pub question21 : Question21
+question21 = run-question21
+
+pub replies-without21 : RepliesWithout21
+unfolding programsReply
+replies-without21 mask one other b c =
+    ap₂ (λ (m n : Ran Listed). sideReply left m (λ x. sideReply right n (λ y. listsReply mask x y))) (unrolled-question21 one b) (unrolled-question21 other c)
 
 pub free-stands-for-all : FreeStandsForAll
 free-stands-for-all S m h t σ = meaning-of-value m h t σ

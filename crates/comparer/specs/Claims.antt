@@ -11,19 +11,22 @@ use lib.IntN.{ℤ, natAbs}
 use Rattle.model.specs.Test.{every}
 use Rattle.model.specs.Tables.{arrayAt, local}
 use Rattle.model.specs.Update.{Tree, Listed, written}
-use Rattle.model.specs.Reply.{Reply, equal, isRefused, Side, both}
-use Rattle.reader.specs.Syntax.{Form}
-use Rattle.unroller.specs.Run.{ok, valueAt, signed, fits16, fits32, indices}
-use Rattle.unroller.specs.Allowed.{allowed}
+use Rattle.model.specs.Reply.{Reply, equal, isRefused, Side, left, right, both}
+use Rattle.reader.specs.Field.{got}
+use Rattle.reader.specs.Syntax.{Form, Program}
+use Rattle.reader.specs.Grammar.{readProgram}
+use Rattle.unroller.specs.Run.{ok, valueAt, signed, fits16, indices, runProgram}
+use Rattle.unroller.specs.Allowed.{fits32, allowed}
 use Rattle.unroller.specs.Layout.{layout}
 use Rattle.unroller.specs.Decode.{decode, accepted}
 use Rattle.unroller.specs.Unroll.{unrolled}
 use Rattle.unroller.specs.Fits.{narrow}
+use Rattle.unroller.specs.Asking as Asking
 use Rattle.unroller.specs.Executed.{Origin}
 use Rattle.unroller.specs.Traced.{Traced, WrittenAt}
 use Rattle.comparer.specs.Meaning.{Meaning, Content, valueOf, after, free}
 use Rattle.comparer.specs.Match.{comparedSize, listsReply}
-use Rattle.comparer.specs.Entry.{entryReply, wordsReply, programsReply, allBits, leftIn, rightIn, inputReply}
+use Rattle.comparer.specs.Entry.{entryReply, wordsReply, sideReply, programsReply, allBits, leftIn, rightIn, inputReply}
 use Rattle.comparer.specs.Explain as Explain
 use Rattle.comparer.specs.Explain.{Chosen, chosen, Explanation, plain, explained, explanation, inputExplanation}
 use Rattle.comparer.specs.Line.{lineOf}
@@ -112,6 +115,17 @@ FormsSmall = (f : Form) (is : List ℤ) → narrow f ≡ true → every (signed 
 -- and so in 32 signed bits.
 abbrev pub FormsFit : Type 0
 FormsFit = (f : Form) (is : List ℤ) → narrow f ≡ true → every fits16 is ≡ true → fits32 (valueAt f is) ≡ true
+
+-- Question 21 is retired. For every file that was read, the run that asks it as each form is worked out (`Asking`) has the outcome of
+-- the run that does not,
+abbrev pub Question21 : Type 0
+Question21 = (bytes : List ℕ) (p : Program) (next : ℕ) → ((i : ℕ) → getD bytes i 0 < 256) → readProgram bytes ≡ got p next → Asking.runProgram p ≡ runProgram p
+
+-- and every reply to two programs is what it was.
+abbrev pub RepliesWithout21 : Type 0
+RepliesWithout21 =
+    (mask : ℕ) (one other : List ℕ) → ((i : ℕ) → getD one i 0 < 256) → ((i : ℕ) → getD other i 0 < 256)
+    → sideReply left (Asking.unrolled one) (λ x. sideReply right (Asking.unrolled other) (λ y. listsReply mask x y)) ≡ programsReply mask one other
 
 -- No input is answered otherwise for being cut behind byte 32,771, which is what the program reads.
 abbrev pub InputCut : Type 0

@@ -41,7 +41,7 @@ abbrev pub sideReply : Side → Ran Listed → (Listed → Reply) → Reply
 sideReply side (ok l) next = next l
 sideReply side (stop question place) next = refused side question place
 
--- 2 to 21 of the left, then of the right, then 22 to 24
+-- 2 to 20 of the left, then of the right, then 22 to 24
 unfoldable pub programsReply : ℕ → List ℕ → List ℕ → Reply
 programsReply mask l r = sideReply left (unrolled l) (λ x. sideReply right (unrolled r) (λ y. listsReply mask x y))
 

@@ -1,4 +1,4 @@
-// Two programs, or both in one framed input: question 1, then 2 to 21 of each, then 22 to 24.
+// Two programs, or both in one framed input: question 1, then 2 to 20 of each, then 22 to 24.
 use crate::lists::compared;
 use crate::lists::long_enough;
 use crate::memory::clear_used;
@@ -40,7 +40,7 @@ fn lay_out(program: &[u8], list: &mut [u32]) -> Laid
     }
 }
 
-// 2 to 21 of the left, then of the right, then 22 to 24.
+// 2 to 20 of the left, then of the right, then 22 to 24.
 fn unrolled_reply(
     left: &[u8],
     right: &[u8],

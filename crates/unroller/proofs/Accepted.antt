@@ -21,21 +21,23 @@ use Rattle.reader.specs.Syntax.Expr.{read, apply, literal, named}
 use Rattle.reader.specs.Syntax.Exprs.{none, more}
 use Rattle.reader.specs.Syntax.Item.{statement, loop, guard}
 use Rattle.reader.specs.Syntax.Items.{end, item}
-use Rattle.unroller.specs.Run.{Ran, ok, stop, _>>=_, ask, valueAt, fits32, worked, inExtent, cellFrom, cellAt, tree, trees, readable, Done, fits16, update, indices, rounds, run, runs, nothing, runProgram}
+use Rattle.unroller.specs.Run.{Ran, ok, stop, _>>=_, ask, valueAt, inExtent, cellFrom, cellAt, tree, trees, readable, Done, fits16, update, indices, rounds, run, runs, nothing, runProgram}
 use Rattle.unroller.specs.Allowed.{localsLast, allowedArray, proper, propers, mayWrite, allowedUpdate, allowed}
 use Rattle.unroller.specs.Unroll.{unrolled}
+use Rattle.unroller.specs.Fits.{fits8, narrow}
 use Rattle.unroller.proofs.Parts.{both, join, array-whole, room, TablesParts, ListParts, list-whole, nodes-snoc}
 use Rattle.reader.proofs.Binds.{read-by, asked-by, choose-by, got-is}
 use Rattle.reader.specs.Grammar.{head, arity, operators, extent, array, arrays, tables, form, subscripts, index, readOf, literalOf, constantOf, applyOf, node, applied, expression, statementOf, loopOf, guardOf, step, items, itemOf, nested, body, program, readProgram}
+use Rattle.unroller.proofs.Fits.{indices-fit, forms-fit, fits8-toZ, fits16-toZ}
 use Rattle.unroller.proofs.Runs.{run-by, ask-by, ok-is, Unrolls, unrolls, unrolled-reads}
 
--- what an expression of an accepted file has: declared arrays and operators, as many subscripts as extents, as many arguments as the arity
+-- what an expression of an accepted file has: declared arrays and operators, narrow forms, as many subscripts as extents, as many arguments as the arity
 unfoldable mutual
   pub Sound : Expr → Tables → ℕ → Type 0
-  Sound (read a fs) t left = length fs ≡ length (arrayAt (t .arrays) a .extents)
+  Sound (read a fs) t left = (length fs ≡ length (arrayAt (t .arrays) a .extents)) × (every narrow fs ≡ true)
   Sound (apply o es) t zero = ⊥
   Sound (apply o es) t (suc left) = (o < length (t .arities)) × SoundAll es t left (getD (t .arities) o 0)
-  Sound (literal f) t left = Unit {0}
+  Sound (literal f) t left = narrow f ≡ true
   Sound (named n) t left = n < 4294967296
 
   pub SoundAll : Exprs → Tables → ℕ → ℕ → Type 0
@@ -46,17 +48,13 @@ unfoldable mutual
 
 unfoldable mutual
   pub SoundItem : Item → Tables → Type 0
-  SoundItem (statement p a fs e) t = (length fs ≡ length (arrayAt (t .arrays) a .extents)) × (not (eqb (arrayAt (t .arrays) a .role) 0) ≡ true) × Sound e t 12
-  SoundItem (loop p s e step body) t = SoundItems body t
-  SoundItem (guard p f body) t = SoundItems body t
+  SoundItem (statement p a fs e) t = (length fs ≡ length (arrayAt (t .arrays) a .extents)) × (every narrow fs ≡ true) × (not (eqb (arrayAt (t .arrays) a .role) 0) ≡ true) × Sound e t 12
+  SoundItem (loop p s e step body) t = (narrow s ≡ true) × (narrow e ≡ true) × SoundItems body t
+  SoundItem (guard p f body) t = (narrow f ≡ true) × SoundItems body t
 
   pub SoundItems : Items → Tables → Type 0
   SoundItems end t = Unit {0}
   SoundItems (item i rest) t = SoundItem i t × SoundItems rest t
-
-pub worked-fits : (p : ℕ) (is : List ℤ) (f : Form) {v : ℤ} → worked p is f ≡ ok v → fits32 v ≡ true
-unfolding worked
-worked-fits p is f r = ask-by 21 p (fits32 (valueAt f is)) _ r λ h r1. ok-is (λ v. fits32 v ≡ true) r1 h
 
 extent-below : (p e : ℕ) (v : ℤ) {k : ℕ} → inExtent p e v ≡ ok k → k < e
 extent-below p e (pos v) r = ask-by 16 p (ltb v e) _ r λ h r1. ok-is (λ k. k < e) r1 (ltb-true v e h)
@@ -69,9 +67,8 @@ cell-inside p is n [] [] l e = ok-is (λ c. c < n * 1 + 1) e (omega arith)
 cell-inside p is n [] (f ∷ fs) l e = absurd (omega arith)
 cell-inside p is n (e ∷ es) [] l r = absurd (omega arith)
 cell-inside p is n (e ∷ es) (f ∷ fs) {c} l r =
-    run-by (worked p is f) _ r λ v _ r1.
-    run-by (inExtent p e v) _ r1 λ k e2 r2.
-    widen k (extent-below p e v e2) (cell-inside p is (n * e + k) es fs (omega arith) r2)
+    run-by (inExtent p e (valueAt f is)) _ r λ k e1 r1.
+    widen k (extent-below p e (valueAt f is) e1) (cell-inside p is (n * e + k) es fs (omega arith) r1)
   where
     widen : (k : ℕ) → k < e → c < (n * e + k) * cells es + cells es → c < n * (e * cells es) + e * cells es
     widen k h q =
@@ -85,8 +82,44 @@ pub cell-at-inside : (t : Tables) (p : ℕ) (is : List ℤ) (a : ℕ) (fs : List
 unfolding cellAt
 cell-at-inside t p is a fs {c} l e = lt-ltb c (cells (arrayAt (t .arrays) a .extents)) (let h = cell-inside p is 0 (arrayAt (t .arrays) a .extents) fs l e in omega arith)
 
--- a tree that an expression gives is proper, and as large as the expression
+-- the cells of a tree are declared
+unfoldable mutual
+  pub Declared : Tree → Tables → Type 0
+  Declared (cell a c) t = inside (t .arrays) a c ≡ true
+  Declared (number z) t = Unit {0}
+  Declared (constant n) t = Unit {0}
+  Declared (operator o ts) t = DeclaredAll ts t
+
+  pub DeclaredAll : Trees → Tables → Type 0
+  DeclaredAll nil t = Unit {0}
+  DeclaredAll (cons x xs) t = Declared x t × DeclaredAll xs t
+
+-- those of a tree that an expression gives, whatever the index values are
 module _ (t : Tables) (p : ℕ) (is : List ℤ) where
+  mutual
+    unfolding tree trees Sound SoundAll Declared DeclaredAll
+
+    pub tree-declared : (e : Expr) (left : ℕ) (x : Tree) → Sound e t left → tree e t p is ≡ ok x → Declared x t
+    tree-declared (read a fs) left x s r =
+        run-by (cellAt t p is a fs) _ r λ c e1 r1.
+        ok-is (λ x. Declared x t) r1 (cell-at-inside t p is a fs (s .0) e1)
+    tree-declared (apply o es) zero x s r = absurd s
+    tree-declared (apply o es) (suc left) x s r =
+        run-by (trees es t p is) _ r λ xs e1 r1.
+        ok-is (λ x. Declared x t) r1 (trees-declared es left (getD (t .arities) o 0) xs (s .1) e1)
+    tree-declared (literal f) left x s r = ok-is (λ x. Declared x t) r tt
+    tree-declared (named n) left x s r = ok-is (λ x. Declared x t) r tt
+
+    trees-declared : (es : Exprs) (left m : ℕ) (xs : Trees) → SoundAll es t left m → trees es t p is ≡ ok xs → DeclaredAll xs t
+    trees-declared none left m xs s r = ok-is (λ xs. DeclaredAll xs t) r tt
+    trees-declared (more e es) left zero xs s r = absurd s
+    trees-declared (more e es) left (suc m) xs s r =
+        run-by (tree e t p is) _ r λ x e1 r1.
+        run-by (trees es t p is) _ r1 λ ys e2 r2.
+        ok-is (λ xs. DeclaredAll xs t) r2 (tree-declared e left x (s .0) e1, trees-declared es left m ys (s .1) e2)
+
+-- a tree that an expression gives at index values of 16 signed bits is proper, and as large as the expression
+module _ (t : Tables) (p : ℕ) (is : List ℤ) (fit : every fits16 is ≡ true) where
   abbrev Proper : ℕ → ℕ → Tree → Type 0
   Proper left n x = (proper x t left ≡ true) × (size x ≡ n)
 
@@ -99,15 +132,13 @@ module _ (t : Tables) (p : ℕ) (is : List ℤ) where
     pub tree-proper : (e : Expr) (left : ℕ) (x : Tree) → Sound e t left → tree e t p is ≡ ok x → Proper left (count e) x
     tree-proper (read a fs) left x s r =
         run-by (cellAt t p is a fs) _ r λ c e1 r1.
-        ok-is (Proper left 1) r1 (cell-at-inside t p is a fs s e1, refl)
+        ok-is (Proper left 1) r1 (cell-at-inside t p is a fs (s .0) e1, refl)
     tree-proper (apply o es) zero x s r = absurd s
     tree-proper (apply o es) (suc left) x s r =
         run-by (trees es t p is) _ r λ xs e1 r1.
         let q = trees-proper es left (getD (t .arities) o 0) xs (s .1) e1 in
         ok-is (Proper (suc left) (suc (counts es))) r1 (join (ltb o (length (t .arities))) (propers xs t left (getD (t .arities) o 0)) (lt-ltb o (length (t .arities)) (s .0)) (q .0), ap suc (q .1))
-    tree-proper (literal f) left x s r =
-        run-by (worked p is f) _ r λ v e1 r1.
-        ok-is (Proper left 1) r1 (worked-fits p is f e1, refl)
+    tree-proper (literal f) left x s r = ok-is (Proper left 1) r (forms-fit f is s fit, refl)
     tree-proper (named n) left x s r = ok-is (Proper left 1) r (lt-ltb n 4294967296 s, refl)
 
     pub trees-proper : (es : Exprs) (left m : ℕ) (xs : Trees) → SoundAll es t left m → trees es t p is ≡ ok xs → Propers left m (counts es) xs
@@ -121,6 +152,10 @@ module _ (t : Tables) (p : ℕ) (is : List ℤ) where
         let b = trees-proper es left m ys (s .1) e2 in
         ok-is (Propers left (suc m) (count e + counts es)) r2 (join (proper x t left) (propers ys t left m) (a .0) (b .0), ap₂ _+_ (a .1) (b .1))
 
+pub every-snoc : {A : Type 0} (f : A → Bool) (l : List A) (x : A) → every f l ≡ true → f x ≡ true → every f (l ++ (x ∷ [])) ≡ true
+every-snoc f [] x e h = join (f x) true h refl
+every-snoc f (y ∷ l) x e h = let q = both (f y) (every f l) e in join (f y) (every f (l ++ (x ∷ []))) (q .0) (every-snoc f l x (q .1) h)
+
 -- what the run keeps of the updates so far
 module _ (t : Tables) where
   pub record Kept (d : Done) : Type 0 where
@@ -129,23 +164,19 @@ module _ (t : Tables) where
     pub small : d .nodes ≤ 8192
     pub each : every (allowedUpdate t) (d .updates) ≡ true
 
-  every-snoc : (f : Update → Bool) (us : List Update) (u : Update) → every f us ≡ true → f u ≡ true → every f (us ++ (u ∷ [])) ≡ true
-  every-snoc f [] u e h = join (f u) true h refl
-  every-snoc f (v ∷ us) u e h = let q = both (f v) (every f us) e in join (f v) (every f (us ++ (u ∷ []))) (q .0) (every-snoc f us u (q .1) h)
-
-  update-kept : (p : ℕ) (is : List ℤ) (a : ℕ) (fs : List Form) (e : Expr) (d : Done) {d′ : Done} → SoundItem (statement p a fs e) t → Kept d → update t p is a fs e d ≡ ok d′ → Kept d′
+  update-kept : (p : ℕ) (is : List ℤ) (a : ℕ) (fs : List Form) (e : Expr) (d : Done) {d′ : Done} → every fits16 is ≡ true → SoundItem (statement p a fs e) t → Kept d → update t p is a fs e d ≡ ok d′ → Kept d′
   unfolding update SoundItem mayWrite allowedUpdate
-  update-kept p is a fs e d s k r =
+  update-kept p is a fs e d fit s k r =
       ask-by 19 p (leb (length (d .updates) + 1) 2048) _ r λ h r1.
       ask-by 20 p (leb (d .nodes + count e) 8192) _ r1 λ g r2.
       run-by (cellAt t p is a fs) _ r2 λ c e3 r3.
       run-by (tree e t p is) _ r3 λ x e4 r4.
       ask-by 17 p (readable x (t .arrays) (d .updates)) _ r4 λ _ r5.
       let u : Update = record { array = a; target = c; source = x } in
-      let q = tree-proper t p is e 12 x (s .2) e4 in
+      let q = tree-proper t p is fit e 12 x (s .3) e4 in
       let l = length-append (d .updates) (u ∷ []) in
       let n = nodes-snoc (d .updates) u in
-      let w : mayWrite (t .arrays) a c ≡ true = join (inside (t .arrays) a c) (not (eqb (arrayAt (t .arrays) a .role) 0)) (cell-at-inside t p is a fs (s .0) e3) (s .1) in
+      let w : mayWrite (t .arrays) a c ≡ true = join (inside (t .arrays) a c) (not (eqb (arrayAt (t .arrays) a .role) 0)) (cell-at-inside t p is a fs (s .0) e3) (s .2) in
       let b : allowedUpdate t u ≡ true = join (mayWrite (t .arrays) a c) (proper x t 12) w (q .0) in
       ok-is Kept r5 (record {
         few = (let v = leb-true (length (d .updates) + 1) 2048 h in omega arith);
@@ -154,13 +185,14 @@ module _ (t : Tables) where
         each = every-snoc (allowedUpdate t) (d .updates) u (k .each) b;
       })
 
-  rounds-kept : (is : List ℤ) (p : ℕ) (body : ℤ → Done → Ran Done) → ((i : ℤ) (d d′ : Done) → Kept d → body i d ≡ ok d′ → Kept d′) → (d : Done) {d′ : Done} → Kept d → rounds is p body d ≡ ok d′ → Kept d′
+  rounds-kept : (is : List ℤ) (p : ℕ) (body : ℤ → Done → Ran Done) → ((i : ℤ) (d d′ : Done) → fits16 i ≡ true → Kept d → body i d ≡ ok d′ → Kept d′) → every fits16 is ≡ true → (d : Done) {d′ : Done} → Kept d → rounds is p body d ≡ ok d′ → Kept d′
   unfolding rounds
-  rounds-kept [] p body h d k r = ok-is Kept r k
-  rounds-kept (i ∷ is) p body h d k r =
+  rounds-kept [] p body h fit d k r = ok-is Kept r k
+  rounds-kept (i ∷ is) p body h fit d k r =
+      let q = both (fits16 i) (every fits16 is) fit in
       ask-by 18 p (leb (d .rounds + 1) 65536) _ r λ _ r1.
       run-by (body i (record { rounds = d .rounds + 1; nodes = d .nodes; updates = d .updates })) _ r1 λ d1 e1 r2.
-      rounds-kept is p body h d1 (h i (record { rounds = d .rounds + 1; nodes = d .nodes; updates = d .updates }) d1 (record { few = k .few; counted = k .counted; small = k .small; each = k .each }) e1) r2
+      rounds-kept is p body h (q .1) d1 (h i (record { rounds = d .rounds + 1; nodes = d .nodes; updates = d .updates }) d1 (q .0) (record { few = k .few; counted = k .counted; small = k .small; each = k .each }) e1) r2
 
   guarded : (b : Bool) (r : Ran Done) (d : Done) {d′ : Done} → (r ≡ ok d′ → Kept d′) → Kept d → _≡_ {A = Ran Done} (elim b as (λ b. Ran Done) [ true ↦ r | false ↦ ok d ]) (ok d′) → Kept d′
   guarded true r d f k e = f e
@@ -169,22 +201,21 @@ module _ (t : Tables) where
   mutual
     unfolding run runs SoundItem SoundItems
 
-    run-kept : (i : Item) (is : List ℤ) (d d′ : Done) → SoundItem i t → Kept d → run i t is d ≡ ok d′ → Kept d′
-    run-kept (statement p a fs e) is d d′ s k r = update-kept p is a fs e d s k r
-    run-kept (loop p f e step body) is d d′ s k r =
-        run-by (worked p is f) _ r λ first _ r1.
-        run-by (worked p is e) _ r1 λ last _ r2.
-        ask-by 15 p (fits16 first && fits16 last) _ r2 λ _ r3.
-        rounds-kept (indices 65536 step last first) p (λ i d. runs body t (is ++ (i ∷ [])) d) (λ i d d′ k r. runs-kept body (is ++ (i ∷ [])) d d′ s k r) d k r3
-    run-kept (guard p f body) is d d′ s k r =
-        run-by (worked p is f) _ r λ v _ r1.
-        guarded (leZ (pos 0) v) (runs body t is d) d (λ e. runs-kept body is d d′ s k e) k r1
+    run-kept : (i : Item) (is : List ℤ) (d d′ : Done) → every fits16 is ≡ true → SoundItem i t → Kept d → run i t is d ≡ ok d′ → Kept d′
+    run-kept (statement p a fs e) is d d′ fit s k r = update-kept p is a fs e d fit s k r
+    run-kept (loop p f e step body) is d d′ fit s k r =
+        ask-by 15 p (fits16 (valueAt f is) && fits16 (valueAt e is)) _ r λ h r1.
+        let q = both (fits16 (valueAt f is)) (fits16 (valueAt e is)) h in
+        rounds-kept (indices 65536 step (valueAt e is) (valueAt f is)) p (λ i d. runs body t (is ++ (i ∷ [])) d)
+        (λ i d d′ g k r. runs-kept body (is ++ (i ∷ [])) d d′ (every-snoc fits16 is i fit g) (s .2) k r)
+        (indices-fit 65536 step (valueAt f is) (valueAt e is) (q .0) (q .1)) d k r1
+    run-kept (guard p f body) is d d′ fit s k r = guarded (leZ (pos 0) (valueAt f is)) (runs body t is d) d (λ e. runs-kept body is d d′ fit (s .1) k e) k r
 
-    runs-kept : (is : Items) (js : List ℤ) (d d′ : Done) → SoundItems is t → Kept d → runs is t js d ≡ ok d′ → Kept d′
-    runs-kept end js d d′ s k r = ok-is Kept r k
-    runs-kept (item i rest) js d d′ s k r =
+    runs-kept : (is : Items) (js : List ℤ) (d d′ : Done) → every fits16 js ≡ true → SoundItems is t → Kept d → runs is t js d ≡ ok d′ → Kept d′
+    runs-kept end js d d′ fit s k r = ok-is Kept r k
+    runs-kept (item i rest) js d d′ fit s k r =
         run-by (run i t js d) _ r λ d1 e1 r1.
-        runs-kept rest js d1 d′ (s .1) (run-kept i js d d1 (s .0) k e1) r1
+        runs-kept rest js d1 d′ fit (s .1) (run-kept i js d d1 fit (s .0) k e1) r1
 
 -- what a reading gives is sound
 module _ {A : Type 0} where
@@ -307,21 +338,39 @@ u32-below s at {x} {next} b e = go (leb (at + 4) (length s)) e
         got-is (λ x. x < 4294967296) r (omega arith)
     go false r = absurd (let z : _≡_ {A = ℕ} 0 1 = cc in omega arith)
 
+-- a form is narrow, whatever the bytes are
+module _ (loops : ℕ) (few : loops ≤ 8) where
+  pub form-narrow : (s : List ℕ) (at : ℕ) (f : Form) (next : ℕ) → form loops s at ≡ got f next → narrow f ≡ true
+  unfolding form i16 i8
+  form-narrow s at f next e =
+      read-by (i16 s at) _ e λ z at1 e1 r1.
+      read-by (times [] _∷_ i8 loops s at1) _ r1 λ cs at2 e2 r2.
+      let l = times-length i8 loops s at1 e2 in
+      got-is (λ f. narrow f ≡ true) r2
+      (join (fits16 z) (leb (length cs) 8 && every fits8 cs) (read-by (u16 s at) _ e1 λ w _ _ r. got-is (λ z. fits16 z ≡ true) r (fits16-toZ w))
+      (join (leb (length cs) 8) (every fits8 cs) (le-leb (length cs) 8 (omega arith))
+      (times-every i8 fits8 (λ s at x next e. read-by (byte s at) _ e λ w _ _ r. got-is (λ z. fits8 z ≡ true) r (fits8-toZ w)) loops s at1 e2)))
+
 module _ (t : Tables) (loops : ℕ) (s : List ℕ) (b : Bytes s) where
   pub subscripts-length : (a at : ℕ) {fs : List Form} {next : ℕ} → subscripts t loops a s at ≡ got fs next → length fs ≡ length (arrayAt (t .arrays) a .extents)
   unfolding subscripts
   subscripts-length a at e = times-length (form loops) (length (arrayAt (t .arrays) a .extents)) s at e
+
+module _ (t : Tables) (loops : ℕ) (s : List ℕ) (b : Bytes s) (few : loops ≤ 8) where
+  subscripts-narrow : (a at : ℕ) {fs : List Form} {next : ℕ} → subscripts t loops a s at ≡ got fs next → every narrow fs ≡ true
+  unfolding subscripts
+  subscripts-narrow a at e = times-every (form loops) narrow (form-narrow loops few) (length (arrayAt (t .arrays) a .extents)) s at e
 
   read-sound : (left at : ℕ) (e : Expr) (next : ℕ) → readOf t loops s at ≡ got e next → Sound e t left
   unfolding readOf Sound
   read-sound left at e next r =
       read-by (index (length (t .arrays)) s at) _ r λ a at1 _ r1.
       read-by (subscripts t loops a s at1) _ r1 λ fs at2 e2 r2.
-      got-is (λ e. Sound e t left) r2 (subscripts-length a at1 e2)
+      got-is (λ e. Sound e t left) r2 (subscripts-length t loops s b a at1 e2, subscripts-narrow a at1 e2)
 
   literal-sound : (left at : ℕ) (e : Expr) (next : ℕ) → literalOf t loops s at ≡ got e next → Sound e t left
   unfolding literalOf Sound
-  literal-sound left at e next r = read-by (form loops s at) _ r λ f at1 _ r1. got-is (λ e. Sound e t left) r1 tt
+  literal-sound left at e next r = read-by (form loops s at) _ r λ f at1 e1 r1. got-is (λ e. Sound e t left) r1 (form-narrow loops few s at f at1 e1)
 
   constant-sound : (left at : ℕ) (e : Expr) (next : ℕ) → constantOf t loops s at ≡ got e next → Sound e t left
   unfolding constantOf Sound
@@ -371,7 +420,7 @@ module _ (t : Tables) (loops : ℕ) (s : List ℕ) (b : Bytes s) where
       asked-by 13 at (not (eqb (arrayAt (t .arrays) a .role) 0)) s at1 _ r1 λ h r2.
       read-by (subscripts t loops a s at1) _ r2 λ fs at2 e3 r3.
       read-by (node t loops (applied t loops 12) s at2) _ r3 λ e at3 e4 r4.
-      got-is (λ i. SoundItem i t) r4 (subscripts-length a at1 e3, h, node-sound 12 (applied t loops 12) (applied-sound 12) at2 e at3 e4)
+      got-is (λ i. SoundItem i t) r4 (subscripts-length t loops s b a at1 e3, subscripts-narrow a at1 e3, h, node-sound 12 (applied t loops 12) (applied-sound 12) at2 e at3 e4)
 
 module _ (t : Tables) (s : List ℕ) (b : Bytes s) where
   abbrev Reads : (ℕ → ℕ → Reader Item) → Type 0
@@ -387,40 +436,40 @@ module _ (t : Tables) (s : List ℕ) (b : Bytes s) where
       read-by (items one k s at2) _ r3 λ js at3 e4 r4.
       got-is (λ is. SoundItems is t) r4 (h code at at1 i at2 e3, items-sound one h k at2 js at3 e4)
 
-  item-sound : (inner : ℕ → ℕ → Reader Item) (most loops : ℕ) → Reads inner → Reads (itemOf t most inner loops)
+  item-sound : (inner : ℕ → ℕ → Reader Item) (most loops : ℕ) → loops ≤ 8 → Reads inner → Reads (itemOf t most inner loops)
   unfolding itemOf
-  item-sound inner most loops h code p at i next r =
-      choose-by (eqb code 1) (statementOf t loops p) _ s at r (λ _ r1. statement-sound t loops s b p at i next r1) λ _ r1.
+  item-sound inner most loops few h code p at i next r =
+      choose-by (eqb code 1) (statementOf t loops p) _ s at r (λ _ r1. statement-sound t loops s b few p at i next r1) λ _ r1.
       choose-by (eqb code 2 || eqb code 3) (inner code p) (refuse 9 p) s at r1 (λ _ r2. h code p at i next r2) λ _ r2.
       absurd (let z : _≡_ {A = ℕ} 0 1 = cc in omega arith)
 
-  loop-sound : (loops : ℕ) (inner : Reader Items) → ((at : ℕ) (is : Items) (next : ℕ) → inner s at ≡ got is next → SoundItems is t)
+  loop-sound : (loops : ℕ) → loops ≤ 8 → (inner : Reader Items) → ((at : ℕ) (is : Items) (next : ℕ) → inner s at ≡ got is next → SoundItems is t)
       → (p at : ℕ) (i : Item) (next : ℕ) → loopOf loops inner p s at ≡ got i next → SoundItem i t
   unfolding loopOf SoundItem
-  loop-sound loops inner h p at i next r =
-      read-by (form loops s at) _ r λ f at1 _ r1.
-      read-by (form loops s at1) _ r1 λ g at2 _ r2.
+  loop-sound loops few inner h p at i next r =
+      read-by (form loops s at) _ r λ f at1 e1 r1.
+      read-by (form loops s at1) _ r1 λ g at2 e2 r2.
       read-by (step s at2) _ r2 λ z at3 _ r3.
       read-by (inner s at3) _ r3 λ is at4 e4 r4.
-      got-is (λ i. SoundItem i t) r4 (h at3 is at4 e4)
+      got-is (λ i. SoundItem i t) r4 (form-narrow loops few s at f at1 e1, form-narrow loops few s at1 g at2 e2, h at3 is at4 e4)
 
-  guard-sound : (loops : ℕ) (inner : Reader Items) → ((at : ℕ) (is : Items) (next : ℕ) → inner s at ≡ got is next → SoundItems is t)
+  guard-sound : (loops : ℕ) → loops ≤ 8 → (inner : Reader Items) → ((at : ℕ) (is : Items) (next : ℕ) → inner s at ≡ got is next → SoundItems is t)
       → (p at : ℕ) (i : Item) (next : ℕ) → guardOf loops inner p s at ≡ got i next → SoundItem i t
   unfolding guardOf SoundItem
-  guard-sound loops inner h p at i next r =
-      read-by (form loops s at) _ r λ f at1 _ r1.
+  guard-sound loops few inner h p at i next r =
+      read-by (form loops s at) _ r λ f at1 e1 r1.
       read-by (inner s at1) _ r1 λ is at2 e2 r2.
-      got-is (λ i. SoundItem i t) r2 (h at1 is at2 e2)
+      got-is (λ i. SoundItem i t) r2 (form-narrow loops few s at f at1 e1, h at1 is at2 e2)
 
-  nested-sound : (most left loops : ℕ) → Reads (nested t most left loops)
+  nested-sound : (most left loops : ℕ) → loops + left ≤ 8 → Reads (nested t most left loops)
   unfolding nested
-  nested-sound most zero loops code p at i next r = absurd (let z : _≡_ {A = ℕ} 0 1 = cc in omega arith)
-  nested-sound most (suc left) loops code p at i next r =
+  nested-sound most zero loops few code p at i next r = absurd (let z : _≡_ {A = ℕ} 0 1 = cc in omega arith)
+  nested-sound most (suc left) loops few code p at i next r =
       choose-by (eqb code 2) _ _ s at r
-      (λ _ r1. loop-sound loops (items (itemOf t most (nested t most left (suc loops)) (suc loops)) most)
-      (λ at is next e. items-sound (itemOf t most (nested t most left (suc loops)) (suc loops)) (item-sound (nested t most left (suc loops)) most (suc loops) (λ code p at i next e. nested-sound most left (suc loops) code p at i next e)) most at is next e) p at i next r1)
-      (λ _ r1. guard-sound loops (items (itemOf t most (nested t most left loops) loops) most)
-      (λ at is next e. items-sound (itemOf t most (nested t most left loops) loops) (item-sound (nested t most left loops) most loops (λ code p at i next e. nested-sound most left loops code p at i next e)) most at is next e) p at i next r1)
+      (λ _ r1. loop-sound loops (omega arith) (items (itemOf t most (nested t most left (suc loops)) (suc loops)) most)
+      (λ at is next e. items-sound (itemOf t most (nested t most left (suc loops)) (suc loops)) (item-sound (nested t most left (suc loops)) most (suc loops) (omega arith) (λ code p at i next e. nested-sound most left (suc loops) (omega arith) code p at i next e)) most at is next e) p at i next r1)
+      (λ _ r1. guard-sound loops (omega arith) (items (itemOf t most (nested t most left loops) loops) most)
+      (λ at is next e. items-sound (itemOf t most (nested t most left loops) loops) (item-sound (nested t most left loops) most loops (omega arith) (λ code p at i next e. nested-sound most left loops (omega arith) code p at i next e)) most at is next e) p at i next r1)
 
 -- a whole program
 pub record SoundProgram (p : Program) : Type 0 where
@@ -438,7 +487,7 @@ program-sound s b p next e = go (leb (length s) 16384) e
         asked-by 14 at2 (eqb at2 (length s)) s at2 _ r2 λ _ r3.
         got-is SoundProgram r3 (record {
           tables-parts = tables-allowed s 0 e1;
-          items-parts = items-sound t s b (itemOf t (length s) (nested t (length s) 8 0) 0) (item-sound t s b (nested t (length s) 8 0) (length s) 0 (nested-sound t s b (length s) 8 0)) (length s) at1 is at2 e2;
+          items-parts = items-sound t s b (itemOf t (length s) (nested t (length s) 8 0) 0) (item-sound t s b (nested t (length s) 8 0) (length s) 0 (omega arith) (nested-sound t s b (length s) 8 0 (omega arith))) (length s) at1 is at2 e2;
         })
     go false r = absurd (let z : _≡_ {A = ℕ} 0 1 = cc in omega arith)
 
@@ -449,7 +498,7 @@ unrolled-allowed bytes l b e = go (unrolls bytes l e)
     go : Unrolls bytes l → allowed l ≡ true
     go u =
         let p = program-sound bytes b (u .source) (u .next) (u .isRead) in
-        let k = runs-kept (u .source .tables) (u .source .items) [] nothing (u .done) (p .items-parts) (record { few = omega arith; counted = refl; small = omega arith; each = refl }) (u .ran) in
+        let k = runs-kept (u .source .tables) (u .source .items) [] nothing (u .done) refl (p .items-parts) (record { few = omega arith; counted = refl; small = omega arith; each = refl }) (u .ran) in
         let reads = unrolled-reads bytes l e in
         list-whole l (record {
           tables-allowed = subst TablesParts (sym (u .tables)) (p .tables-parts);

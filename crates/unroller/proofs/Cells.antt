@@ -19,14 +19,16 @@ use Rattle.model.proofs.Abs.{sub-pos}
 use Rattle.reader.specs.Field.{got, times}
 use Rattle.reader.specs.Grammar.{form}
 use Rattle.reader.proofs.Binds.{read-by, got-is}
-use Rattle.unroller.specs.Run.{Ran, ok, stop, _>>=_, fits32, worked, inExtent, cellFrom}
-use Rattle.unroller.specs.Forms.{ValueIs, Values}
+use Rattle.unroller.specs.Run.{Ran, ok, stop, _>>=_, valueAt, inExtent, cellFrom}
+use Rattle.unroller.specs.Allowed.{fits32}
+use Rattle.unroller.specs.Forms.{Values}
 use Rattle.unroller.specs.Writes.{CellIs, Below, InExtent, Subscript, CellsFrom}
 use Rattle.unroller.specs.declared.forms.Valued.{Valued}
 use Rattle.unroller.specs.declared.forms.Valued.the-variants as valued
 use Rattle.unroller.specs.declared.statement.Cell.{Cell}
 use Rattle.unroller.specs.declared.statement.Cell.the-variants as cell
 use Rattle.unroller.proofs.Parts.{both}
+use Rattle.unroller.proofs.Values.{values-none, values-some}
 
 -- a signed number read back from its bits, by its sign
 module _ (v : ℤ) (f : SFits w64 v) where
@@ -119,27 +121,17 @@ module _ (v : ℤ) (f : SFits w64 v) where
 -- a subscript, worked out and asked
 module _ (s : List ℕ) (at loops : ℕ) (is : List ℤ) (e : ℕ) where
   pub subscript-no : (r : Valued) (k : ℕ) → Values s at loops is r → r ≡ valued.No k → Subscript s at loops is e (cell.No k)
-  unfolding Values Subscript
-  subscript-no r k h q f next p g l i = go (worked p (take loops is) f) (subst (λ (r : Valued). ValueIs (worked p (take loops is) f) next r) q (h f next p g l i))
-    where
-      go : (m : Ran ℤ) → ValueIs m next (valued.No k) → CellIs (m >>= inExtent p e) next (cell.No k)
-      go (ok v) x = absurd x
-      go (stop question place) x = x
+  unfolding Subscript Values
+  subscript-no r k h q f next p g l i = values-none (h f next g l i) q
 
   -- the value is handed on by its bits
   pub subscript-is : (r : Valued) (v : ℤ) (to : ℕ) (a : Cell) → SFits w64 v → Values s at loops is r → r ≡ valued.Is v to → InExtent e (toZ w64 (ofZ w64 v)) to a → Subscript s at loops is e a
-  unfolding Values Subscript InExtent
-  subscript-is r v to a b h q x f next p g l i = go (worked p (take loops is) f) (subst (λ (r : Valued). ValueIs (worked p (take loops is) f) next r) q (h f next p g l i))
-    where
-      go : (m : Ran ℤ) → ValueIs m next (valued.Is v to) → CellIs (m >>= inExtent p e) next a
-      go (ok w) y = subst (λ (z : ℤ). CellIs (inExtent p e z) next a) (y .0) (subst (λ (n : ℕ). CellIs (inExtent p e v) n a) (y .1) (subst (λ (z : ℤ). CellIs (inExtent p e z) to a) (toZ-ofZ {w = w64} {z = v} b) (x p)))
-      go (stop question place) y = absurd y
+  unfolding Subscript Values InExtent
+  subscript-is r v to a b h q x f next p g l i =
+      let y = values-some (h f next g l i) q in
+      subst (λ (z : ℤ). CellIs (inExtent p e z) next a) (y .0) (subst (λ (n : ℕ). CellIs (inExtent p e v) n a) (y .1) (subst (λ (z : ℤ). CellIs (inExtent p e z) to a) (toZ-ofZ {w = w64} {z = v} b) (x p)))
 
 -- a part of a run that gave a cell, and what follows it
-pub bind-assoc : {A B C : Type 0} (m : Ran A) (f : A → Ran B) (g : B → Ran C) → ((m >>= f) >>= g) ≡ (m >>= λ a. f a >>= g)
-bind-assoc (ok a) f g = refl
-bind-assoc (stop question place) f g = refl
-
 cell-no : (m : Ran ℕ) (f : ℕ → Ran ℕ) (at next k : ℕ) → CellIs m at (cell.No k) → CellIs (m >>= f) next (cell.No k)
 cell-no (ok c) f at next k h = absurd h
 cell-no (stop question place) f at next k h = h
@@ -160,8 +152,7 @@ module _ (s : List ℕ) (loops : ℕ) (is : List ℤ) where
       read-by (form loops s at) _ g λ f at1 e1 r1.
       read-by (times [] _∷_ (form loops) (length es) s at1) _ r1 λ gs at2 e2 r2.
       got-is (λ fs. CellIs (cellFrom p (take loops is) n (e ∷ es) fs) next (cell.No k)) r2
-      (subst (λ (m : Ran ℕ). CellIs m next (cell.No k)) (bind-assoc (worked p (take loops is) f) (inExtent p e) (λ v. cellFrom p (take loops is) (n * e + v) es gs))
-      (cell-no (worked p (take loops is) f >>= inExtent p e) (λ v. cellFrom p (take loops is) (n * e + v) es gs) at1 next k (h f at1 p e1 l i)))
+      (cell-no (inExtent p e (valueAt f (take loops is))) (λ v. cellFrom p (take loops is) (n * e + v) es gs) at1 next k (h f at1 p e1 l i))
 
   cells-step : (at n e : ℕ) (es : List ℕ) (c to : ℕ) (a : Cell) → Subscript s at loops is e (cell.Is c to) → CellsFrom s to loops is (n * e + c) es a → CellsFrom s at loops is n (e ∷ es) a
   unfolding CellsFrom cellFrom times Subscript
@@ -170,9 +161,8 @@ module _ (s : List ℕ) (loops : ℕ) (is : List ℤ) where
       read-by (times [] _∷_ (form loops) (length es) s at1) _ r1 λ gs at2 e2 r2.
       let z : at2 ≡ next = cc in
       got-is (λ fs. CellIs (cellFrom p (take loops is) n (e ∷ es) fs) next a) r2
-      (subst (λ (m : Ran ℕ). CellIs m next a) (bind-assoc (worked p (take loops is) f) (inExtent p e) (λ v. cellFrom p (take loops is) (n * e + v) es gs))
-      (cell-is (worked p (take loops is) f >>= inExtent p e) (λ v. cellFrom p (take loops is) (n * e + v) es gs) at1 next c to a (h f at1 p e1 l i)
-      (λ q. w gs next p (ap (λ (x : ℕ). times [] _∷_ (form loops) (length es) s x) q ∙ e2 ∙ ap (λ (x : ℕ). got gs x) z) l i)))
+      (cell-is (inExtent p e (valueAt f (take loops is))) (λ v. cellFrom p (take loops is) (n * e + v) es gs) at1 next c to a (h f at1 p e1 l i)
+      (λ q. w gs next p (ap (λ (x : ℕ). times [] _∷_ (form loops) (length es) s x) q ∙ e2 ∙ ap (λ (x : ℕ). got gs x) z) l i))
 
   module _ (es : List ℕ) (k : ℕ) (h : k < length es) where
     opened : drop k es ≡ getD es k 0 ∷ drop (k + 1) es

@@ -23,7 +23,7 @@ use Rattle.reader.specs.Syntax.Items.{end, item}
 use Rattle.reader.specs.Grammar.{subscripts, index, expression, statementOf, items, itemOf, nested, body, readProgram}
 use Rattle.reader.proofs.Binds.{not-got, read-by, asked-by, choose-by}
 use Rattle.reader.proofs.Forward.{Past, held-got, statement-held}
-use Rattle.unroller.specs.Run.{Ran, ok, stop, valueAt, fits32, worked, cellAt, tree, readable, Done, fits16, update, indices, rounds, run, runs, nothing, runProgram}
+use Rattle.unroller.specs.Run.{Ran, ok, stop, valueAt, cellAt, tree, readable, Done, fits16, update, indices, rounds, run, runs, nothing, runProgram}
 use Rattle.unroller.specs.Unroll.{unrolled}
 use Rattle.unroller.specs.Executed.{Executed, each, executed, executeds, execution, hits, writesTo, orElse, last, Origin, endIn, endOf, originBy, originAt, originOf}
 use Rattle.unroller.specs.Traced.{Does, Happens, Traced, Inside, InsideAny, stretchOf, Stretch, WrittenAt}
@@ -82,10 +82,6 @@ module _ (t : Tables) where
       let g = h i (record { rounds = d .rounds + 1; nodes = d .nodes; updates = d .updates }) d1 e1 in
       grown-then (xs i) (each xs is) d d1 d′ (record { made = g .made; grown = g .grown; happens = g .happens }) (rounds-grown is p own xs h d1 d′ r2)
 
-  pub worked-is : (p : ℕ) (is : List ℤ) (f : Form) (v : ℤ) → worked p is f ≡ ok v → v ≡ valueAt f is
-  unfolding worked
-  worked-is p is f v r = ask-by 21 p (fits32 (valueAt f is)) _ r λ _ r1. ok-is (λ v. v ≡ valueAt f is) r1 refl
-
   guarded : (b : Bool) (r : Ran Done) (xs : List Executed) (d d′ : Done) → (r ≡ ok d′ → Grown xs d d′) → _≡_ {A = Ran Done} (elim b as (λ b. Ran Done) [ true ↦ r | false ↦ ok d ]) (ok d′)
       → Grown (elim b as (λ b. List Executed) [ true ↦ xs | false ↦ [] ]) d d′
   guarded true r xs d d′ f e = f e
@@ -97,16 +93,9 @@ module _ (t : Tables) where
     run-grown : (i : Item) (is : List ℤ) (d d′ : Done) → run i t is d ≡ ok d′ → Grown (executed i is) d d′
     run-grown (statement p a fs e) is d d′ r = update-grown p is a fs e d r
     run-grown (loop p s e step own) is d d′ r =
-        run-by (worked p is s) _ r λ first e1 r1.
-        run-by (worked p is e) _ r1 λ last e2 r2.
-        ask-by 15 p (fits16 first && fits16 last) _ r2 λ _ r3.
-        subst (λ (z : ℤ). Grown (each (λ i. executeds own (is ++ (i ∷ []))) (indices 65536 step (valueAt e is) z)) d d′) (worked-is p is s first e1)
-        (subst (λ (z : ℤ). Grown (each (λ i. executeds own (is ++ (i ∷ []))) (indices 65536 step z first)) d d′) (worked-is p is e last e2)
-        (rounds-grown (indices 65536 step last first) p (λ i d. runs own t (is ++ (i ∷ [])) d) (λ i. executeds own (is ++ (i ∷ []))) (λ i d d′ r. runs-grown own (is ++ (i ∷ [])) d d′ r) d d′ r3))
-    run-grown (guard p f own) is d d′ r =
-        run-by (worked p is f) _ r λ v e1 r1.
-        subst (λ (z : ℤ). Grown (elim (leZ (pos 0) z) as (λ b. List Executed) [ true ↦ executeds own is | false ↦ [] ]) d d′) (worked-is p is f v e1)
-        (guarded (leZ (pos 0) v) (runs own t is d) (executeds own is) d d′ (λ e. runs-grown own is d d′ e) r1)
+        ask-by 15 p (fits16 (valueAt s is) && fits16 (valueAt e is)) _ r λ _ r1.
+        rounds-grown (indices 65536 step (valueAt e is) (valueAt s is)) p (λ i d. runs own t (is ++ (i ∷ [])) d) (λ i. executeds own (is ++ (i ∷ []))) (λ i d d′ r. runs-grown own (is ++ (i ∷ [])) d d′ r) d d′ r1
+    run-grown (guard p f own) is d d′ r = guarded (leZ (pos 0) (valueAt f is)) (runs own t is d) (executeds own is) d d′ (λ e. runs-grown own is d d′ e) r
 
     runs-grown : (js : Items) (is : List ℤ) (d d′ : Done) → runs js t is d ≡ ok d′ → Grown (executeds js is) d d′
     runs-grown end is d d′ r = ok-is (Grown [] d) r (grown-none d)

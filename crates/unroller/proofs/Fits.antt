@@ -2,7 +2,7 @@
 use Prim.Native.Nat.{ℕ, zero, suc, _+_, _-_, _*_, _≤_, _<_}
 use native.Mathlib.Omega.{arith}
 use mathlib.Core.Path.{_≡_, refl, sym, subst}
-use mathlib.Core.List.{List, [], _∷_, _++_}
+use mathlib.Core.List.{List, [], _∷_}
 use mathlib.Core.Bool.{Bool, true, false, _&&_, false≢true}
 use lib.ListN.{length}
 use lib.Dec.{leb, ltb}
@@ -14,7 +14,8 @@ use mir.Val.{toZ, sel}
 use Rattle.model.specs.Test.{every}
 use Rattle.model.proofs.Abs.{sub-pos, sub-neg, abs-add, abs-mul-le}
 use Rattle.reader.specs.Syntax.{Form}
-use Rattle.unroller.specs.Run.{products, valueAt, signed, fits16, fits32, indices}
+use Rattle.unroller.specs.Run.{products, valueAt, signed, fits16, indices}
+use Rattle.unroller.specs.Allowed.{fits32}
 use Rattle.unroller.specs.Fits.{fits8, narrow}
 use Rattle.unroller.proofs.Parts.{both, join}
 

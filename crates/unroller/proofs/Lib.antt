@@ -5,6 +5,7 @@ pub mod Laws
 pub mod Runs
 pub mod Fits
 pub mod Accepted
+pub mod Question21
 mod Sums
 pub mod Values
 pub mod Stands

@@ -13,8 +13,7 @@ use mir.Val.{SFits}
 use Rattle.model.specs.Test.{within, every, total}
 use Rattle.model.specs.Tables.{Array, Tables, cells}
 use Rattle.model.specs.Update.{Update, Listed, size, nodes}
-use Rattle.unroller.specs.Run.{fits32}
-use Rattle.unroller.specs.Allowed.{localsLast, allowedArray, allowedTables, allowedUpdate, readAll, allowed}
+use Rattle.unroller.specs.Allowed.{localsLast, allowedArray, allowedTables, fits32, allowedUpdate, readAll, allowed}
 
 pub both : (a b : Bool) → (a && b) ≡ true → (a ≡ true) × (b ≡ true)
 both a b e = and-eq-true-iff a b .0 e

@@ -1,10 +1,10 @@
 -- A loop's start, end and step as the code works them out.
 use mathlib.Core.Path.{_≡_, refl, sym, ap, _∙_, subst}
-use Prim.Native.Nat.{ℕ, zero, suc, _+_, _≤_, _<_}
+use Prim.Native.Nat.{ℕ, zero, suc, _+_, _<_}
 use native.Mathlib.Omega.{arith}
 use mathlib.Core.List.{List}
 use mathlib.Core.Bool.{Bool, true, false, _&&_, false≢true}
-use lib.ListN.{length, take}
+use lib.ListN.{take}
 use lib.Dec.{leb}
 use lib.IntN.{ℤ, pos, negsuc}
 use lib.Signed.{leZ, ltZ}
@@ -12,21 +12,21 @@ use mir.Syntax.{w16, w64}
 use mir.Val.{SFits}
 use borrow.Author.Tests.{le-leb, lt-leb, leb-true, ltb-true, ltb-false}
 use Rattle.reader.specs.Field.{Outcome, got, no, i16}
-use Rattle.reader.specs.Syntax.{Form}
 use Rattle.reader.specs.Grammar.{form, step}
 use Rattle.reader.specs.Answers.{signedSays}
 use Rattle.reader.specs.declared.fields.Signed.{Signed}
 use Rattle.reader.specs.declared.fields.Signed.the-variants as signed
 use Rattle.reader.proofs.Binds.{read-by}
 use Rattle.reader.proofs.Bytes.{step-zero, step-is}
-use Rattle.unroller.specs.Run.{Ran, ok, stop, _>>=_, worked, fits16}
-use Rattle.unroller.specs.Forms.{ValueIs, Values}
-use Rattle.unroller.specs.WalkItems.{Ends, within16, ranged, RangeIs, Steps, Ranges, Moves}
+use Rattle.unroller.specs.Run.{valueAt, fits16}
+use Rattle.unroller.specs.Forms.{Values}
+use Rattle.unroller.specs.WalkItems.{within16, RangeIs, Steps, Ranges, Moves}
 use Rattle.unroller.specs.declared.forms.Valued.{Valued}
 use Rattle.unroller.specs.declared.forms.Valued.the-variants as valued
 use Rattle.unroller.specs.declared.items.Range.{Range}
 use Rattle.unroller.specs.declared.items.Range.the-variants as range
 use Rattle.unroller.proofs.Parts.{both}
+use Rattle.unroller.proofs.Values.{values-none, values-some}
 
 -- 16 signed bits, as the code tests them and as the language does
 pub below16 : (v : ℤ) → ltZ v (negsuc 32767) ≡ true → false ≡ fits16 v
@@ -40,15 +40,6 @@ within-16 (negsuc n) e = let h = ltb-false 32767 n e in rw (le-leb n 32767 h)
 pub fits16-signed : (z : ℤ) → fits16 z ≡ true → SFits w16 z
 fits16-signed (pos n) e = record { sfits = let h = leb-true n 32767 e in omega arith }
 fits16-signed (negsuc n) e = record { sfits = let h = leb-true n 32767 (both (leb n 32767) true e .0) in omega arith }
-
-module _ (z : ℤ) (next : ℕ) where
-  value-stop : (m : Ran ℤ) (g : ℤ → Ran Ends) (mid k : ℕ) → ValueIs m mid (valued.No k) → RangeIs (m >>= g) z next (range.No k)
-  value-stop (ok v) g mid k w = absurd w
-  value-stop (stop a b) g mid k w = w
-
-  value-step : (m : Ran ℤ) (g : ℤ → Ran Ends) (v : ℤ) (to mid : ℕ) (r : Range) → ValueIs m mid (valued.Is v to) → (to ≡ mid → RangeIs (g v) z next r) → RangeIs (m >>= g) z next r
-  value-step (ok x) g v to mid r w k = subst (λ (y : ℤ). RangeIs (g y) z next r) (w .0) (k (w .1))
-  value-step (stop a b) g v to mid r w k = absurd w
 
 module _ (s : List ℕ) (at : ℕ) (first last : ℤ) (r₀ : Signed) (says : signedSays r₀ ≡ step s at) where
   pub steps-refused : (k p : ℕ) → r₀ ≡ signed.Not k p → Steps s at first last (range.No k)
@@ -90,29 +81,21 @@ steps-last s at first last f g z next p h = rw (f, g) refl
 
 module _ (s : List ℕ) (at loops : ℕ) (is : List ℤ) where
   pub ranges-first : (v₀ : Valued) (k : ℕ) → v₀ ≡ valued.No k → Values s at loops is v₀ → Ranges s at loops is (range.No k)
-  unfolding Values Ranges ranged
-  ranges-first v₀ k case v f g z m n next p e1 e2 e3 b8 l8 =
-      value-stop z next (worked p (take loops is) f) _ m k (subst (λ (r : Valued). ValueIs (worked p (take loops is) f) m r) case (v f m p e1 b8 l8))
+  unfolding Ranges Values
+  ranges-first v₀ k case v f g z m n next p e1 e2 e3 b8 l8 = values-none (v f m e1 b8 l8) case
 
   module _ (v₀ v₁ : Valued) (a : ℤ) (to : ℕ) (case : v₀ ≡ valued.Is a to) (v : Values s at loops is v₀) (w : Values s to loops is v₁) where
-    first-is : (f : Form) (m p : ℕ) → form loops s at ≡ got f m → loops ≤ 8 → length is ≡ 8 → ValueIs (worked p (take loops is) f) m (valued.Is a to)
-    unfolding Values
-    first-is f m p e b8 l8 = subst (λ (r : Valued). ValueIs (worked p (take loops is) f) m r) case (v f m p e b8 l8)
-
     pub ranges-last : (k : ℕ) → v₁ ≡ valued.No k → Ranges s at loops is (range.No k)
-    unfolding Values Ranges ranged
-    ranges-last k case₁ f g z m n next p e1 e2 e3 b8 l8 =
-        value-step z next (worked p (take loops is) f) (λ first. worked p (take loops is) g >>= λ last. within16 p first last) a to m (range.No k) (first-is f m p e1 b8 l8) λ q.
-        value-stop z next (worked p (take loops is) g) (λ last. within16 p a last) n k
-        (subst (λ (r : Valued). ValueIs (worked p (take loops is) g) n r) case₁ (w g n p (ap (form loops s) q ∙ e2) b8 l8))
+    unfolding Ranges Values
+    ranges-last k case₁ f g z m n next p e1 e2 e3 b8 l8 = let q = values-some (v f m e1 b8 l8) case in values-none (w g n (ap (form loops s) (q .1) ∙ e2) b8 l8) case₁
 
     pub ranges-both : (b : ℤ) (end : ℕ) (r : Range) → v₁ ≡ valued.Is b end → Steps s end a b r → Ranges s at loops is r
-    unfolding Values Ranges ranged Steps
+    unfolding Ranges Steps Values
     ranges-both b end r case₁ u f g z m n next p e1 e2 e3 b8 l8 =
-        value-step z next (worked p (take loops is) f) (λ first. worked p (take loops is) g >>= λ last. within16 p first last) a to m r (first-is f m p e1 b8 l8) λ q.
-        value-step z next (worked p (take loops is) g) (λ last. within16 p a last) b end n r
-        (subst (λ (r : Valued). ValueIs (worked p (take loops is) g) n r) case₁ (w g n p (ap (form loops s) q ∙ e2) b8 l8)) λ q2.
-        u z next p (ap (step s) q2 ∙ e3)
+        let q = values-some (v f m e1 b8 l8) case in
+        let q₁ = values-some (w g n (ap (form loops s) (q .1) ∙ e2) b8 l8) case₁ in
+        subst (λ (y : ℤ). RangeIs (within16 p y (valueAt g (take loops is))) z next r) (q .0)
+        (subst (λ (y : ℤ). RangeIs (within16 p a y) z next r) (q₁ .0) (u z next p (ap (step s) (q₁ .1) ∙ e3)))
 
 pub moves-on : (r : Range) {a b c : ℤ} {to : ℕ} → Moves r → r ≡ range.Over a b c to → c ≡ pos 0 → ⊥
 moves-on r {a} {b} {c} {to} m e = subst Moves e m

@@ -7,7 +7,7 @@ use mathlib.Core.Bool.{true, false}
 use lib.ListN.{length, getD, take, set, length-append}
 use lib.Seq.{sets, length-sets}
 use lib.Dec.{eqb}
-use lib.IntN.{ℤ}
+use lib.IntN.{ℤ, natAbs}
 use borrow.Author.Tests.{eqb-true, ne-eqb}
 use mir.Syntax.{w32, w64}
 use mir.Val.{ofZ, toZ, SFits}
@@ -27,9 +27,9 @@ use Rattle.reader.specs.declared.fields.Field.the-variants as field
 use Rattle.reader.proofs.Binds.{read-by, got-is}
 use Rattle.reader.proofs.Steps.{field-got, field-no}
 use Rattle.reader.proofs.Flattened.{sets-append}
-use Rattle.unroller.specs.Run.{Ran, ok, stop, _>>=_, fits32, worked, cellAt, tree, trees}
-use Rattle.unroller.specs.Forms.{ValueIs, Values}
-use Rattle.unroller.specs.Allowed.{allowedTables}
+use Rattle.unroller.specs.Run.{Ran, ok, stop, _>>=_, cellAt, tree, trees}
+use Rattle.unroller.specs.Forms.{Values, Small}
+use Rattle.unroller.specs.Allowed.{allowedTables, fits32}
 use Rattle.unroller.specs.Layout.{treeWords, treesWords}
 use Rattle.unroller.specs.Stands.{basesOf}
 use Rattle.unroller.specs.Writes.{CellIs, CellsFrom, CellOf, WroteIs, WritesRead, WritesLiteral, WritesConstant, WritesLeaf}
@@ -42,7 +42,9 @@ use Rattle.unroller.specs.declared.statement.Wrote.the-variants as wrote
 use Rattle.unroller.proofs.Parts.{within-high, TablesParts, tables-parts, room}
 use Rattle.unroller.proofs.Laws.{tree-length}
 use Rattle.unroller.proofs.Runs.{run-by, ok-is}
-use Rattle.unroller.proofs.Accepted.{worked-fits, cell-at-inside, Bytes, index-below, u32-below, subscripts-length}
+use Rattle.unroller.proofs.Accepted.{cell-at-inside, Bytes, index-below, u32-below, subscripts-length}
+use Rattle.unroller.proofs.Fits.{abs-signed}
+use Rattle.unroller.proofs.Values.{values-none, values-some}
 use Rattle.unroller.proofs.Stands.{bases-length, bases-last, bases-sorted, proper-inside}
 
 -- three stores are one run
@@ -60,7 +62,7 @@ module _ (t : Tables) (p : ℕ) (is : List ℤ) where
     pub tree-size : (e : Expr) (x : Tree) → tree e t p is ≡ ok x → size x ≡ count e
     tree-size (read a fs) x r = run-by (cellAt t p is a fs) _ r λ c _ r1. ok-is (λ x. size x ≡ 1) r1 refl
     tree-size (apply o es) x r = run-by (trees es t p is) _ r λ xs e1 r1. ok-is (λ x. size x ≡ suc (counts es)) r1 (ap suc (trees-size es xs e1))
-    tree-size (literal f) x r = run-by (worked p is f) _ r λ v _ r1. ok-is (λ x. size x ≡ 1) r1 refl
+    tree-size (literal f) x r = ok-is (λ x. size x ≡ 1) r refl
     tree-size (named n) x r = ok-is (λ x. size x ≡ 1) r refl
 
     pub trees-size : (es : Exprs) (xs : Trees) → trees es t p is ≡ ok xs → sizes xs ≡ counts es
@@ -108,33 +110,21 @@ wrote-more f g make ws w list list1 to to1 next e1 e2 (stop question place) (wro
 -- literals
 module _ (s : List ℕ) (at loops : ℕ) (is : List ℤ) (list : List ℕ) (to : ℕ) (list′ : List ℕ) (r : Valued) (v : Values s at loops is r) where
   pub literal-no : (k : ℕ) → r ≡ valued.No k → WritesLiteral s at loops is list to (wrote.No k) list′
-  unfolding WritesLiteral Values literalOf tree
-  literal-no k q t e next p g l i a w =
-      read-by (form loops s at) _ g λ f at1 e1 r1.
-      got-is (λ e. WroteIs treeWords list to next (tree e t p (take loops is)) (wrote.No k) list′) r1
-      (go (worked p (take loops is) f) at1 (subst (λ (r : Valued). ValueIs (worked p (take loops is) f) at1 r) q (v f at1 p e1 l i)))
-    where
-      go : (m : Ran ℤ) (at1 : ℕ) → ValueIs m at1 (valued.No k) → WroteIs treeWords list to next (m >>= λ z. ok (number z)) (wrote.No k) list′
-      go (ok z) at1 x = absurd x
-      go (stop question place) at1 x = x
+  unfolding WritesLiteral Values literalOf
+  literal-no k q t e next p g l i a w = read-by (form loops s at) _ g λ f at1 e1 r1. values-none (v f at1 e1 l i) q
 
-  pub literal-is : (z : ℤ) (n word : ℕ) → SFits w64 z → r ≡ valued.Is z n → (fits32 (toZ w64 (ofZ w64 z)) ≡ true → word ≡ ofZ w32 (toZ w64 (ofZ w64 z))) → list′ ≡ sets list to (18 ∷ word ∷ 0 ∷ []) →
+  pub literal-is : (z : ℤ) (n word : ℕ) → SFits w64 z → Small r → r ≡ valued.Is z n → (fits32 (toZ w64 (ofZ w64 z)) ≡ true → word ≡ ofZ w32 (toZ w64 (ofZ w64 z))) → list′ ≡ sets list to (18 ∷ word ∷ 0 ∷ []) →
       WritesLiteral s at loops is list to (wrote.To n (to + 3)) list′
   unfolding WritesLiteral Values literalOf tree treeWords
-  literal-is z n word j q b0 w t e next p g l i a room =
+  literal-is z n word j small q b0 w t e next p g l i a room =
       read-by (form loops s at) _ g λ f at1 e1 r1.
       let x : at1 ≡ next = cc in
+      let h = values-some (v f at1 e1 l i) q in
       got-is (λ e. WroteIs treeWords list to next (tree e t p (take loops is)) (wrote.To n (to + 3)) list′) r1
-      (go f (worked p (take loops is) f) at1 x refl (subst (λ (r : Valued). ValueIs (worked p (take loops is) f) at1 r) q (v f at1 p e1 l i)))
+      (h .1 ∙ x, refl, w ∙ ap (λ (b : ℕ). sets list to (18 ∷ b ∷ 0 ∷ [])) (bits ∙ ap (ofZ w32) (h .0)))
     where
-      b : fits32 z ≡ true → word ≡ ofZ w32 z
-      b = subst (λ (z : ℤ). fits32 z ≡ true → word ≡ ofZ w32 z) (toZ-ofZ {w = w64} {z = z} j) b0
-
-      go : (f : Form) (m : Ran ℤ) (at1 : ℕ) → at1 ≡ next → worked p (take loops is) f ≡ m → ValueIs m at1 (valued.Is z n) → WroteIs treeWords list to next (m >>= λ z. ok (number z)) (wrote.To n (to + 3)) list′
-      go f (ok y) at1 x d h =
-          let u : fits32 z ≡ true = subst (λ (y : ℤ). fits32 y ≡ true) (sym (h .0)) (worked-fits p (take loops is) f d) in
-          (h .1 ∙ x, refl, w ∙ ap (λ (b : ℕ). sets list to (18 ∷ b ∷ 0 ∷ [])) (b u ∙ ap (ofZ w32) (h .0)))
-      go f (stop question place) at1 x d h = absurd h
+      bits : word ≡ ofZ w32 z
+      bits = subst (λ (z : ℤ). fits32 z ≡ true → word ≡ ofZ w32 z) (toZ-ofZ {w = w64} {z = z} j) b0 (abs-signed 2147483647 z (let h : natAbs z ≤ 33587200 = subst Small q small in omega arith))
 
 -- constants
 module _ (s : List ℕ) (at : ℕ) (list : List ℕ) (to : ℕ) (list′ : List ℕ) (r : Field) (says : fieldSays r ≡ u32 s at) where

@@ -17,7 +17,7 @@ use Rattle.reader.specs.Syntax.Item.{statement, loop, guard}
 use Rattle.reader.specs.Syntax.Items.{end, item}
 use Rattle.reader.specs.Grammar.{head, operators, extent, array, arrays, tables, body, program, readProgram}
 use Rattle.reader.proofs.Binds.{read-by, asked-by, got-is}
-use Rattle.unroller.specs.Run.{Ran, ok, stop, _>>=_, ask, worked, cellAt, tree, readable, Done, fits16, update, indices, rounds, run, runs, nothing, runProgram}
+use Rattle.unroller.specs.Run.{Ran, ok, stop, _>>=_, ask, valueAt, cellAt, tree, readable, Done, fits16, update, indices, rounds, run, runs, nothing, runProgram}
 use Rattle.unroller.specs.Allowed.{localsLast, readAll}
 use Rattle.unroller.specs.Unroll.{listedBy, unrolledBy, unrolled}
 use Rattle.unroller.proofs.Parts.{both, join}
@@ -72,13 +72,9 @@ module _ (t : Tables) where
     run-good : (i : Item) (is : List ℤ) (d d′ : Done) → Good d → run i t is d ≡ ok d′ → Good d′
     run-good (statement p a fs e) is d d′ g r = update-good p is a fs e d g r
     run-good (loop p s e step body) is d d′ g r =
-        run-by (worked p is s) _ r λ first _ r1.
-        run-by (worked p is e) _ r1 λ last _ r2.
-        ask-by 15 p (fits16 first && fits16 last) _ r2 λ _ r3.
-        rounds-good (indices 65536 step last first) p (λ i d. runs body t (is ++ (i ∷ [])) d) (λ i d d′ g r. runs-good body (is ++ (i ∷ [])) d d′ g r) d g r3
-    run-good (guard p f body) is d d′ g r =
-        run-by (worked p is f) _ r λ v _ r1.
-        guarded (leZ (pos 0) v) (runs body t is d) d (λ e. runs-good body is d d′ g e) g r1
+        ask-by 15 p (fits16 (valueAt s is) && fits16 (valueAt e is)) _ r λ _ r1.
+        rounds-good (indices 65536 step (valueAt e is) (valueAt s is)) p (λ i d. runs body t (is ++ (i ∷ [])) d) (λ i d d′ g r. runs-good body (is ++ (i ∷ [])) d d′ g r) d g r1
+    run-good (guard p f body) is d d′ g r = guarded (leZ (pos 0) (valueAt f is)) (runs body t is d) d (λ e. runs-good body is d d′ g e) g r
 
     runs-good : (is : Items) (js : List ℤ) (d d′ : Done) → Good d → runs is t js d ≡ ok d′ → Good d′
     runs-good end js d d′ g r = ok-is Good r g

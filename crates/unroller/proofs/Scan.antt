@@ -13,12 +13,12 @@ use Rattle.model.specs.Update.{Tree, Trees, Update, size, sizes, writes, writte
 use Rattle.model.specs.Update.Tree.{cell, number, constant, operator}
 use Rattle.model.specs.Update.Trees.{nil, cons}
 use Rattle.unroller.specs.Run.{readable, readables}
-use Rattle.unroller.specs.Allowed.{proper, propers}
 use Rattle.unroller.specs.Layout.{treeWords, treesWords}
 use Rattle.unroller.specs.Stands.{basesOf}
 use Rattle.unroller.specs.Walk.{Based}
 use Rattle.unroller.specs.Writes.{spot, mayRead, recordFine, scanned}
-use Rattle.unroller.proofs.Parts.{both, within-high, TablesParts}
+use Rattle.unroller.proofs.Parts.{within-high, TablesParts}
+use Rattle.unroller.proofs.Accepted.{Declared, DeclaredAll}
 use Rattle.unroller.proofs.Stands.{bases-length, bases-sorted, proper-inside}
 use Rattle.unroller.proofs.Records.{spot-below}
 
@@ -121,21 +121,17 @@ module _ (f : ℕ → ℕ → Bool) where
   -- for cells that are declared the property is question 17's
   module _ (t : Tables) (us : List Update) (h : (a c : ℕ) → inside (t .arrays) a c ≡ true → f a c ≡ (starts (arrayAt (t .arrays) a) || written us a c)) where
     mutual
-      unfolding fine fines readable readables proper propers
+      unfolding fine fines readable readables Declared DeclaredAll
 
-      pub fine-readable : (x : Tree) (left : ℕ) → proper x t left ≡ true → fine x ≡ readable x (t .arrays) us
-      fine-readable (cell a c) left p = h a c p
-      fine-readable (number z) left p = refl
-      fine-readable (constant n) left p = refl
-      fine-readable (operator o ts) zero p = absurd (let z : _≡_ {A = Bool} false true = p in let w : _≡_ {A = ℕ} 0 1 = cc in omega arith)
-      fine-readable (operator o ts) (suc left) p = fines-readable ts left (getD (t .arities) o 0) (both (ltb o (length (t .arities))) (propers ts t left (getD (t .arities) o 0)) p .1)
+      pub fine-readable : (x : Tree) → Declared x t → fine x ≡ readable x (t .arrays) us
+      fine-readable (cell a c) p = h a c p
+      fine-readable (number z) p = refl
+      fine-readable (constant n) p = refl
+      fine-readable (operator o ts) p = fines-readable ts p
 
-      fines-readable : (xs : Trees) (left n : ℕ) → propers xs t left n ≡ true → fines xs ≡ readables xs (t .arrays) us
-      fines-readable nil left n p = refl
-      fines-readable (cons x xs) left zero p = absurd (let z : _≡_ {A = Bool} false true = p in let w : _≡_ {A = ℕ} 0 1 = cc in omega arith)
-      fines-readable (cons x xs) left (suc n) p =
-          let q = both (proper x t left) (propers xs t left n) p in
-          ap₂ _&&_ (fine-readable x left (q .0)) (fines-readable xs left n (q .1))
+      fines-readable : (xs : Trees) → DeclaredAll xs t → fines xs ≡ readables xs (t .arrays) us
+      fines-readable nil p = refl
+      fines-readable (cons x xs) p = ap₂ _&&_ (fine-readable x (p .0)) (fines-readable xs (p .1))
 
 -- flags
 module _ (t : Tables) (bases : List ℕ) (parts : TablesParts t) (based : Based t bases) where

@@ -28,9 +28,9 @@ use Rattle.reader.specs.declared.fields.Place.the-variants as place
 use Rattle.reader.proofs.Binds.{not-got}
 use Rattle.reader.proofs.Forward.{held-got, index-held}
 use Rattle.reader.proofs.Lists.{padded-set}
-use Rattle.unroller.specs.Run.{Ran, ok, valueAt, worked, fits16, Done, goesOn, indices, rounds, run, runs, update, cellAt}
-use Rattle.unroller.specs.Forms.{ValueIs, Values}
-use Rattle.unroller.specs.WalkItems.{Ends, within16, ranged, RangeIs, Ranges}
+use Rattle.unroller.specs.Run.{Ran, ok, valueAt, fits16, Done, goesOn, indices, rounds, run, runs, update, cellAt}
+use Rattle.unroller.specs.Forms.{Values}
+use Rattle.unroller.specs.WalkItems.{Ends, within16, RangeIs, Ranges}
 use Rattle.unroller.specs.Writes.{CellIs, CellsFrom, CellOf}
 use Rattle.unroller.specs.Executed.{Executed, each, executed, executeds, writesTo, orElse, last, Origin, endIn, endOf, originAt}
 use Rattle.unroller.specs.Origins.{Writer, held, writerIs, Seen, Passed, Eight, PastIs, TracesStatement, TracesItem, TracesItems, TracesNested, TracesRound, TracesRounds, Finds}
@@ -44,7 +44,8 @@ use Rattle.unroller.proofs.Runs.{run-by, ask-by}
 use Rattle.unroller.proofs.Indices.{indices-none}
 use Rattle.unroller.proofs.WalkForward.{item-forward, told}
 use Rattle.unroller.proofs.WalkItems.{items-in, items-by, sign-true, sign-false, guard-by, loop-by}
-use Rattle.unroller.proofs.Executed.{worked-is, statement-by}
+use Rattle.unroller.proofs.Values.{values-none, values-some}
+use Rattle.unroller.proofs.Executed.{statement-by}
 
 -- ---- the last of two rows of statements
 module _ {A : Type 0} where
@@ -149,77 +150,63 @@ module _ (s : List ℕ) (t : Tables) (left loops : ℕ) (is : List ℤ) (a e at 
         no-nested e = not-got e
 
 -- ---- guards
--- a form that was worked out, as the code answers it
-value-of : (m : Ran ℤ) (v : ℤ) (mid : ℕ) (u : ℤ) (to : ℕ) → m ≡ ok v → ValueIs m mid (valued.Is u to) → (u ≡ v) × (to ≡ mid)
-value-of m v mid u to q h = subst (λ (m : Ran ℤ). ValueIs m mid (valued.Is u to)) q h
-
-value-lost : {P : Type 0} (m : Ran ℤ) (v : ℤ) (mid k : ℕ) → m ≡ ok v → ValueIs m mid (valued.No k) → P
-value-lost m v mid k q h = absurd (subst (λ (m : Ran ℤ). ValueIs m mid (valued.No k)) q h)
-
 module _ (s : List ℕ) (t : Tables) (left less loops : ℕ) (is : List ℤ) (a e at : ℕ) (w : Writer) (fewer : left ≡ suc less) where
   -- a guard that ran, taken apart
   guard-ran : {P : Type 0} (i : Item) (next : ℕ) (d d′ : Done) → nested t (length s) left loops 3 at s (at + 1) ≡ got i next → run i t (take loops is) d ≡ ok d′
-      → ((g : Form) (mid : ℕ) (js : Items) (v : ℤ) → form loops s (at + 1) ≡ got g mid → body t (length s) less loops s mid ≡ got js next → i ≡ guard at g js
-      → worked at (take loops is) g ≡ ok v → _≡_ {A = Ran Done} (elim (leZ (pos 0) v) as (λ b. Ran Done) [ true ↦ runs js t (take loops is) d | false ↦ ok d ]) (ok d′) → P) → P
+      → ((g : Form) (mid : ℕ) (js : Items) → form loops s (at + 1) ≡ got g mid → body t (length s) less loops s mid ≡ got js next → i ≡ guard at g js
+      → _≡_ {A = Ran Done} (elim (leZ (pos 0) (valueAt g (take loops is))) as (λ b. Ran Done) [ true ↦ runs js t (take loops is) d | false ↦ ok d ]) (ok d′) → P) → P
   unfolding run
-  guard-ran i next d d′ q ran k = guard-by s t left less loops at fewer q λ g mid js e1 e2 x.
-      run-by (worked at (take loops is) g) _ (subst (λ (i : Item). run i t (take loops is) d ≡ ok d′) x ran) λ v r1 r2. k g mid js v e1 e2 x r1 r2
+  guard-ran i next d d′ q ran k = guard-by s t left less loops at fewer q λ g mid js e1 e2 x. k g mid js e1 e2 x (subst (λ (i : Item). run i t (take loops is) d ≡ ok d′) x ran)
 
   pub guard-lost : (v₀ : Valued) (k : ℕ) → v₀ ≡ valued.No k → Values s (at + 1) loops is v₀ → (r : ℕ) (w′ : Writer) → TracesNested s at 3 t left loops is a e w r w′
   unfolding TracesNested Values
-  guard-lost v₀ k case values r w′ i next d d′ q b8 eight ran = guard-ran i next d d′ q ran λ g mid js v e1 e2 x r1 r2.
-      value-lost (worked at (take loops is) g) v mid k r1 (subst (λ (u : Valued). ValueIs (worked at (take loops is) g) mid u) case (values g mid at e1 (omega arith) (eight .long)))
+  guard-lost v₀ k case values r w′ i next d d′ q b8 eight ran = guard-ran i next d d′ q ran λ g mid js e1 _ _ _. values-none (values g mid e1 (omega arith) (eight .long)) case
 
-  module _ (v₀ : Valued) (u : ℤ) (to : ℕ) (case : v₀ ≡ valued.Is u to) (values₀ : Values s (at + 1) loops is v₀) (r : ℕ) (w′ : Writer) where
-    values : Values s (at + 1) loops is (valued.Is u to)
-    values = subst (Values s (at + 1) loops is) case values₀
-
+  module _ (v₀ : Valued) (u : ℤ) (to : ℕ) (case : v₀ ≡ valued.Is u to) (values : Values s (at + 1) loops is v₀) (r : ℕ) (w′ : Writer) where
     pub guard-runs : ltZ u (pos 0) ≡ false → TracesItems s to t less loops is a e w r w′ → TracesNested s at 3 t left loops is a e w r w′
     unfolding TracesNested TracesItems Values executed body
-    guard-runs z v i next d d′ q b8 eight ran = guard-ran i next d d′ q ran λ g mid js k e1 e2 x r1 r2.
-        let h = value-of (worked at (take loops is) g) k mid u to r1 (values g mid at e1 (omega arith) (eight .long)) in
-        let p : leZ (pos 0) k ≡ true = ap (leZ (pos 0)) (sym (h .0)) ∙ sign-true u z in
-        let l : leZ (pos 0) (valueAt g (take loops is)) ≡ true = ap (leZ (pos 0)) (sym (worked-is t at (take loops is) g k r1)) ∙ p in
+    guard-runs z v i next d d′ q b8 eight ran = guard-ran i next d d′ q ran λ g mid js e1 e2 x r1.
+        let h = values-some (values g mid e1 (omega arith) (eight .long)) case in
+        let l : leZ (pos 0) (valueAt g (take loops is)) ≡ true = ap (leZ (pos 0)) (sym (h .0)) ∙ sign-true u z in
         subst (λ (i : Item). Passed s t a e next (executed i (take loops is)) w r w′) (sym x)
         (subst (λ (b : Bool). Passed s t a e next (elim b as (λ b. List Executed) [ true ↦ executeds js (take loops is) | false ↦ [] ]) w r w′) (sym l)
         (v js next (length s) d d′ (ap (body t (length s) less loops s) (h .1) ∙ e2) (omega arith) eight
-        (subst (λ (b : Bool). _≡_ {A = Ran Done} (elim b as (λ b. Ran Done) [ true ↦ runs js t (take loops is) d | false ↦ ok d ]) (ok d′)) p r2)))
+        (subst (λ (b : Bool). _≡_ {A = Ran Done} (elim b as (λ b. Ran Done) [ true ↦ runs js t (take loops is) d | false ↦ ok d ]) (ok d′)) l r1)))
 
     pub guard-passes : ltZ u (pos 0) ≡ true → Finds s to t less loops r → w′ ≡ w → TracesNested s at 3 t left loops is a e w r w′
     unfolding TracesNested Finds Values executed
-    guard-passes z v kept i next d d′ q b8 eight ran = guard-ran i next d d′ q ran λ g mid js k e1 e2 x r1 r2.
-        let h = value-of (worked at (take loops is) g) k mid u to r1 (values g mid at e1 (omega arith) (eight .long)) in
-        let l : leZ (pos 0) (valueAt g (take loops is)) ≡ false = ap (leZ (pos 0)) (sym (worked-is t at (take loops is) g k r1)) ∙ ap (leZ (pos 0)) (sym (h .0)) ∙ sign-false u z in
+    guard-passes z v kept i next d d′ q b8 eight ran = guard-ran i next d d′ q ran λ g mid js e1 e2 x _.
+        let h = values-some (values g mid e1 (omega arith) (eight .long)) case in
+        let l : leZ (pos 0) (valueAt g (take loops is)) ≡ false = ap (leZ (pos 0)) (sym (h .0)) ∙ sign-false u z in
         subst (λ (i : Item). Passed s t a e next (executed i (take loops is)) w r w′) (sym x)
         (subst (λ (b : Bool). Passed s t a e next (elim b as (λ b. List Executed) [ true ↦ executeds js (take loops is) | false ↦ [] ]) w r w′) (sym l)
         (subst (λ (w′ : Writer). Passed s t a e next [] w r w′) (sym kept) (passed-none s t a e r next w (v js next (ap (body t (length s) less loops s) (h .1) ∙ e2) (omega arith)))))
 
 -- ---- loops
--- ends that were worked out, and lie in 16 signed bits
-ranged-ok : (p : ℕ) (is : List ℤ) (f g : Form) (first final : ℤ) → worked p is f ≡ ok first → worked p is g ≡ ok final → (fits16 first && fits16 final) ≡ true
-    → ranged p is f g ≡ ok (record { first = first; last = final })
-unfolding ranged within16
-ranged-ok p is f g first final h k q = rw (h, k, q) refl
+-- ends that lie in 16 signed bits
+within-ok : (p : ℕ) (first final : ℤ) → (fits16 first && fits16 final) ≡ true → within16 p first final ≡ ok (record { first = first; last = final })
+unfolding within16
+within-ok p first final q = rw q refl
 
 module _ (s : List ℕ) (t : Tables) (left less loops : ℕ) (is : List ℤ) (a e at : ℕ) (w : Writer) (fewer : left ≡ suc less) where
+  abbrev ends : Form → Form → Ran Ends
+  ends f g = within16 at (valueAt f (take loops is)) (valueAt g (take loops is))
+
   -- a loop that ran, taken apart
   loop-ran : {P : Type 0} (i : Item) (next : ℕ) (d d′ : Done) → nested t (length s) left loops 2 at s (at + 1) ≡ got i next → run i t (take loops is) d ≡ ok d′
-      → ((f g : Form) (z : ℤ) (m n to : ℕ) (js : Items) (first final : ℤ) → form loops s (at + 1) ≡ got f m → form loops s m ≡ got g n → step s n ≡ got z to
-      → body t (length s) less (loops + 1) s to ≡ got js next → i ≡ loop at f g z js → first ≡ valueAt f (take loops is) → final ≡ valueAt g (take loops is)
-      → ranged at (take loops is) f g ≡ ok (record { first = first; last = final })
-      → rounds (indices 65536 z final first) at (λ k d. runs js t (take loops is ++ (k ∷ [])) d) d ≡ ok d′ → P) → P
+      → ((f g : Form) (z : ℤ) (m n to : ℕ) (js : Items) → form loops s (at + 1) ≡ got f m → form loops s m ≡ got g n → step s n ≡ got z to
+      → body t (length s) less (loops + 1) s to ≡ got js next → i ≡ loop at f g z js → ends f g ≡ ok (record { first = valueAt f (take loops is); last = valueAt g (take loops is) })
+      → rounds (indices 65536 z (valueAt g (take loops is)) (valueAt f (take loops is))) at (λ k d. runs js t (take loops is ++ (k ∷ [])) d) d ≡ ok d′ → P) → P
   unfolding run
   loop-ran i next d d′ q ran k = loop-by s t left less loops at fewer q λ f g z m n to js e1 e2 e3 e4 x.
-      run-by (worked at (take loops is) f) _ (subst (λ (i : Item). run i t (take loops is) d ≡ ok d′) x ran) λ first r1 r2.
-      run-by (worked at (take loops is) g) _ r2 λ final r3 r4.
-      ask-by 15 at (fits16 first && fits16 final) _ r4 λ fit r5.
-      k f g z m n to js first final e1 e2 e3 e4 x (worked-is t at (take loops is) f first r1) (worked-is t at (take loops is) g final r3) (ranged-ok at (take loops is) f g first final r1 r3 fit) r5
+      ask-by 15 at (fits16 (valueAt f (take loops is)) && fits16 (valueAt g (take loops is))) _ (subst (λ (i : Item). run i t (take loops is) d ≡ ok d′) x ran) λ fit r1.
+      k f g z m n to js e1 e2 e3 e4 x (within-ok at (valueAt f (take loops is)) (valueAt g (take loops is)) fit) r1
 
   pub loop-lost : (r₀ : Range) (k : ℕ) → r₀ ≡ range.No k → Ranges s (at + 1) loops is r₀ → (r : ℕ) (w′ : Writer) → TracesNested s at 2 t left loops is a e w r w′
   unfolding TracesNested Ranges
-  loop-lost r₀ k case ranges r w′ i next d d′ q b8 eight ran = loop-ran i next d d′ q ran λ f g z m n to js first final e1 e2 e3 e4 x _ _ good _.
-      lost (ranged at (take loops is) f g) z to (record { first = first; last = final }) good
-      (subst (λ (u : Range). RangeIs (ranged at (take loops is) f g) z to u) case (ranges f g z m n to at e1 e2 e3 (omega arith) (eight .long)))
+  loop-lost r₀ k case ranges r w′ i next d d′ q b8 eight ran = loop-ran i next d d′ q ran λ f g z m n to js e1 e2 e3 _ _ good _.
+      lost (ends f g) z to (record { first = valueAt f (take loops is); last = valueAt g (take loops is) }) good
+      (subst (λ (u : Range). RangeIs (ends f g) z to u) case (ranges f g z m n to at e1 e2 e3 (omega arith) (eight .long)))
     where
       lost : {P : Type 0} (m : Ran Ends) (z : ℤ) (to : ℕ) (x : Ends) → m ≡ ok x → RangeIs m z to (range.No k) → P
       lost m z to x q h = absurd (subst (λ (m : Ran Ends). RangeIs m z to (range.No k)) q h)
@@ -227,16 +214,17 @@ module _ (s : List ℕ) (t : Tables) (left less loops : ℕ) (is : List ℤ) (a 
   pub loop-runs : (r₀ : Range) (x y c : ℤ) (from : ℕ) → r₀ ≡ range.Over x y c from → Ranges s (at + 1) loops is r₀ → (r : ℕ) (w′ : Writer)
       → TracesRounds s from t less loops is c y 65536 x 0 a e w r w′ → TracesNested s at 2 t left loops is a e w r w′
   unfolding TracesNested TracesRounds Ranges executed
-  loop-runs r₀ x y c from case ranges r w′ v i next d d′ q b8 eight ran = loop-ran i next d d′ q ran λ f g z m n to js first final e1 e2 e3 e4 l p1 p2 good r1.
-      let h = over (ranged at (take loops is) f g) z to (record { first = first; last = final }) good
-      (subst (λ (u : Range). RangeIs (ranged at (take loops is) f g) z to u) case (ranges f g z m n to at e1 e2 e3 (omega arith) (eight .long))) in
+  loop-runs r₀ x y c from case ranges r w′ v i next d d′ q b8 eight ran = loop-ran i next d d′ q ran λ f g z m n to js e1 e2 e3 e4 l good r1.
+      let final = valueAt g (take loops is) in
+      let h = over (ends f g) z to (record { first = valueAt f (take loops is); last = final }) good
+      (subst (λ (u : Range). RangeIs (ends f g) z to u) case (ranges f g z m n to at e1 e2 e3 (omega arith) (eight .long))) in
       let k = v js next at d d′ (ap (body t (length s) less (loops + 1) s) (h .3) ∙ e4) (omega arith) eight (λ z. absurd (omega arith))
       (subst (λ (z : ℤ). rounds (indices 65536 z y x) at (λ k d. runs js t (take loops is ++ (k ∷ [])) d) d ≡ ok d′) (sym (h .2))
       (subst (λ (y : ℤ). rounds (indices 65536 z y x) at (λ k d. runs js t (take loops is ++ (k ∷ [])) d) d ≡ ok d′) (sym (h .1))
       (subst (λ (x : ℤ). rounds (indices 65536 z final x) at (λ k d. runs js t (take loops is ++ (k ∷ [])) d) d ≡ ok d′) (sym (h .0)) r1))) in
       subst (λ (i : Item). Passed s t a e next (executed i (take loops is)) w r w′) (sym l)
-      (subst (λ (u : ℤ). Passed s t a e next (each (λ k. executeds js (take loops is ++ (k ∷ []))) (indices 65536 z (valueAt g (take loops is)) u)) w r w′) (h .0 ∙ p1)
-      (subst (λ (u : ℤ). Passed s t a e next (each (λ k. executeds js (take loops is ++ (k ∷ []))) (indices 65536 z u x)) w r w′) (h .1 ∙ p2)
+      (subst (λ (u : ℤ). Passed s t a e next (each (λ k. executeds js (take loops is ++ (k ∷ []))) (indices 65536 z final u)) w r w′) (h .0)
+      (subst (λ (u : ℤ). Passed s t a e next (each (λ k. executeds js (take loops is ++ (k ∷ []))) (indices 65536 z u x)) w r w′) (h .1)
       (subst (λ (u : ℤ). Passed s t a e next (each (λ k. executeds js (take loops is ++ (k ∷ []))) (indices 65536 u y x)) w r w′) (h .2) k)))
     where
       over : (m : Ran Ends) (z : ℤ) (to : ℕ) (u : Ends) → m ≡ ok u → RangeIs m z to (range.Over x y c from) → (x ≡ u .first) × (y ≡ u .last) × (c ≡ z) × (from ≡ to)

@@ -29,7 +29,7 @@ use Rattle.reader.proofs.Steps.{field-got, field-no}
 use Rattle.reader.proofs.Depth.{forms-shallow, expression-shallow}
 use Rattle.reader.proofs.Flattened.{sets-append}
 use Rattle.reader.proofs.Forward.{held-got, index-held, Counted, nodes-held}
-use Rattle.unroller.specs.Run.{Ran, ok, stop, _>>=_, ask, fits32, valueAt, worked, inExtent, cellFrom, cellAt, tree, trees, readable, Done, update, run}
+use Rattle.unroller.specs.Run.{Ran, ok, stop, _>>=_, ask, valueAt, inExtent, cellFrom, cellAt, tree, trees, readable, Done, update, run}
 use Rattle.unroller.specs.Layout.{treeWords, updateWords, words, layout}
 use Rattle.unroller.specs.Stands.{basesOf}
 use Rattle.unroller.specs.Walk.{Progress, on, Based, Holds, Walked, RunsStatement}
@@ -45,8 +45,8 @@ use Rattle.unroller.specs.declared.statement.Target.the-variants as targ
 use Rattle.unroller.proofs.Parts.{within-high, tables-parts, nodes-snoc}
 use Rattle.unroller.proofs.Laws.{words-long, layout-snoc}
 use Rattle.unroller.proofs.Runs.{run-by, ok-is}
-use Rattle.unroller.proofs.Accepted.{Bytes, Sound, cell-at-inside, subscripts-length, node-sound, applied-sound, index-below, tree-proper}
-use Rattle.unroller.proofs.Records.{words-count, spot-below}
+use Rattle.unroller.proofs.Accepted.{Bytes, Sound, cell-at-inside, subscripts-length, node-sound, applied-sound, index-below, tree-declared}
+use Rattle.unroller.proofs.Records.{tree-size, words-count, spot-below}
 use Rattle.unroller.proofs.Scan.{scan-whole, fine-readable, spot-is, may-is, marked-more}
 
 -- the test of question 20
@@ -109,10 +109,6 @@ at-ask k p true = tt
 at-ask k p false = refl
 
 module _ (p : ℕ) (is : List ℤ) where
-  worked-at : (f : Form) → At p (worked p is f)
-  unfolding worked
-  worked-at f = at-then p (ask 21 p (fits32 (valueAt f is))) (λ _. ok (valueAt f is)) (at-ask 21 p (fits32 (valueAt f is))) (λ _. tt)
-
   extent-at : (e : ℕ) (v : ℤ) → At p (inExtent p e v)
   extent-at e (pos v) = at-then p (ask 16 p (ltb v e)) (λ _. ok v) (at-ask 16 p (ltb v e)) (λ _. tt)
   extent-at e (negsuc v) = refl
@@ -122,8 +118,7 @@ module _ (p : ℕ) (is : List ℤ) where
   cell-from-at n [] fs = tt
   cell-from-at n (e ∷ es) [] = tt
   cell-from-at n (e ∷ es) (f ∷ fs) =
-      at-then p (worked p is f) (λ v. inExtent p e v >>= λ k. cellFrom p is (n * e + k) es fs) (worked-at f)
-      (λ v. at-then p (inExtent p e v) (λ k. cellFrom p is (n * e + k) es fs) (extent-at e v) (λ k. cell-from-at (n * e + k) es fs))
+      at-then p (inExtent p e (valueAt f is)) (λ k. cellFrom p is (n * e + k) es fs) (extent-at e (valueAt f is)) (λ k. cell-from-at (n * e + k) es fs)
 
   module _ (t : Tables) where
     cell-at : (a : ℕ) (fs : List Form) → At p (cellAt t p is a fs)
@@ -136,7 +131,7 @@ module _ (p : ℕ) (is : List ℤ) where
       tree-at : (e : Expr) → At p (tree e t p is)
       tree-at (read a fs) = at-then p (cellAt t p is a fs) (λ c. ok (cellOf a c)) (cell-at a fs) (λ _. tt)
       tree-at (apply o es) = at-then p (trees es t p is) (λ ts. ok (operator o ts)) (trees-at es) (λ _. tt)
-      tree-at (literal f) = at-then p (worked p is f) (λ v. ok (number v)) (worked-at f) (λ _. tt)
+      tree-at (literal f) = tt
       tree-at (named n) = tt
 
       trees-at : (es : Exprs) → At p (trees es t p is)
@@ -207,9 +202,9 @@ module _ (s : List ℕ) (a at : ℕ) (t : Tables) (loops : ℕ) (is : List ℤ) 
 drop-run : (l : List ℕ) (i : ℕ) (vs : List ℕ) → i + length vs ≤ length l → drop i (sets l i vs) ≡ vs ++ drop (i + length vs) l
 drop-run l i vs h = ap (drop i) (sets-eq vs l i h ∙ append-assoc (take i l) vs (drop (i + length vs) l)) ∙ drop-at (take i l) (vs ++ drop (i + length vs) l) i (let e = length-take i l in omega arith)
 
-expression-sound : (t : Tables) (loops : ℕ) (s : List ℕ) → Bytes s → (at : ℕ) (e : Expr) (next : ℕ) → expression t loops s at ≡ got e next → Sound e t 12
+expression-sound : (t : Tables) (loops : ℕ) (s : List ℕ) → Bytes s → loops ≤ 8 → (at : ℕ) (e : Expr) (next : ℕ) → expression t loops s at ≡ got e next → Sound e t 12
 unfolding expression
-expression-sound t loops s b at e next g = node-sound t loops s b 12 (applied t loops 12) (λ p at e next r. applied-sound t loops s b 12 p at e next r) at e next g
+expression-sound t loops s b few at e next g = node-sound t loops s b few 12 (applied t loops 12) (λ p at e next r. applied-sound t loops s b few 12 p at e next r) at e next g
 
 -- behind questions 19 and 20
 module _ (s : List ℕ) (p a at : ℕ) (t : Tables) (bases : List ℕ) (loops : ℕ) (is : List ℤ) (progress : Progress) (list flags : List ℕ) (to : ℕ)
@@ -273,7 +268,8 @@ module _ (s : List ℕ) (p a at : ℕ) (t : Tables) (bases : List ℕ) (loops : 
     known fs source e next d st q bs h c1 x1 f1 f2 y =
         let parts = tables-parts t (h .tables-allowed) in
         let i = cell-at-inside t p (take loops is) a fs (subscripts-length t loops s b a at (st .target)) f1 in
-        let pr = tree-proper t p (take loops is) e 12 x1 (expression-sound t loops s b source e next (st .behind)) f2 in
+        let pr = tree-declared t p (take loops is) e 12 x1 (expression-sound t loops s b (st .few-loops) source e next (st .behind)) f2 in
+        let sz = tree-size t p (take loops is) e x1 f2 in
         let len = words-count t p (take loops is) e x1 f2 in
         let hu = h .updates in
         let hc = h .count in
@@ -289,11 +285,11 @@ module _ (s : List ℕ) (p a at : ℕ) (t : Tables) (bases : List ℕ) (loops : 
           place = y .1;
           cell-in = i;
           counted = nc;
-          nodes-are = pr .1 ∙ sym nc;
+          nodes-are = sz ∙ sym nc;
           list-is = y .3;
           reads = ap (scanned (mayRead t bases flags) n) cut
-              ∙ scan-whole (mayRead t bases flags) x1 n (drop (to + 3 + length (treeWords x1)) base) (nc ∙ sym (pr .1))
-              ∙ fine-readable (mayRead t bases flags) t (d .updates) (may-is t bases parts bs flags (d .updates) (h .marked)) x1 12 (pr .0);
+              ∙ scan-whole (mayRead t bases flags) x1 n (drop (to + 3 + length (treeWords x1)) base) (nc ∙ sym sz)
+              ∙ fine-readable (mayRead t bases flags) t (d .updates) (may-is t bases parts bs flags (d .updates) (h .marked)) x1 pr;
         }
 
     by-known : (r : Walk) (list′ flags′ : List ℕ) →

@@ -1,17 +1,12 @@
 -- Forms worked out over arrays of eight numbers have the values that the definition gives them.
-use mathlib.Core.Path.{_≡_, refl, sym, ap, ap₂, _∙_, subst}
+use mathlib.Core.Path.{_≡_, sym, ap, ap₂, _∙_}
 use Prim.Native.Nat.{ℕ, zero, suc, _+_, _-_, _≤_}
 use native.Mathlib.Omega.{arith}
 use mathlib.Core.List.{List, [], _∷_, _++_}
-use mathlib.Core.Bool.{Bool, true, false, false≢true}
 use lib.ListN.{length, getD, take, replicate, length-append, length-replicate, length-take, List·getD-eq-default}
 use lib.Seq.{take-suc}
-use lib.IntN.{ℤ, pos, negsuc, _+ℤ_, _*ℤ_, +ℤ-assoc, +ℤ-idl, +ℤ-idr}
-use lib.Signed.{ltZ}
-use mir.Syntax.{w64}
-use mir.Val.{toZ, ofZ, SFits}
-use mir.Facts.{toZ-ofZ}
-use borrow.Author.Tests.{le-leb, lt-leb, ltb-true, ltb-false}
+use lib.IntN.{ℤ, pos, _+ℤ_, _*ℤ_, +ℤ-assoc, +ℤ-idl, +ℤ-idr}
+use borrow.Author.Tests.{le-leb}
 use Rattle.reader.specs.Field.{Outcome, got, no}
 use Rattle.reader.specs.Syntax.{Form}
 use Rattle.reader.specs.Grammar.{form}
@@ -20,10 +15,11 @@ use Rattle.reader.specs.Entries.{padded, formStep, FormIs, formSays, coefficien
 use Rattle.reader.specs.declared.fields.Place.{Place}
 use Rattle.reader.specs.declared.fields.Place.the-variants.{Next, Not}
 use Rattle.reader.specs.declared.forms.FormRead.{FormRead}
-use Rattle.unroller.specs.Run.{products, valueAt, fits32, worked}
-use Rattle.unroller.specs.Forms.{formSum, fittedIn, ValueIs, Values}
+use Rattle.unroller.specs.Run.{products, valueAt}
+use Rattle.unroller.specs.Forms.{formSum, Values}
 use Rattle.unroller.proofs.Sums.{sum-still}
 use Rattle.unroller.proofs.Stands.{default-behind}
+use Rattle.unroller.specs.declared.forms.Valued.{Valued}
 use Rattle.unroller.specs.declared.forms.Valued.the-variants.{Is, No}
 
 products-snoc : (xs ys : List ℤ) (c i : ℤ) → length xs ≡ length ys → products (xs ++ (c ∷ [])) (ys ++ (i ∷ [])) ≡ products xs ys +ℤ (c *ℤ i)
@@ -59,7 +55,7 @@ module _ (s : List ℕ) (at loops : ℕ) (is : List ℤ) (r : FormRead) (i : For
 
   pub value-refused : (number place : ℕ) → r .answer ≡ Not number place → Values s at loops is (No number)
   unfolding Values
-  value-refused number place e f next p q h l = absurd (placed-not (r .answer) _ f number place next e (says f next q h))
+  value-refused number place e f next q h l = absurd (placed-not (r .answer) _ f number place next e (says f next q h))
 
   module _ (to : ℕ) (e : r .answer ≡ Next to) (v : ℤ) (w : v ≡ formSum (r .constant) (r .coefficients) is 8) where
     long-enough : (f : Form) (next : ℕ) → form loops s at ≡ got f next → loops ≤ 8 → 8 ≤ length (r .coefficients)
@@ -93,45 +89,13 @@ module _ (s : List ℕ) (at loops : ℕ) (is : List ℤ) (r : FormRead) (i : For
           cc,
         )
 
-    pub value-fitted : Values s at loops is (fittedIn v to)
-    unfolding Values worked fittedIn
-    value-fitted f next p q h l = go (formed f next q h l) (fits32 v) refl
-      where
-        go : (v ≡ valueAt f (take loops is)) × (to ≡ next) → (z : Bool) → fits32 v ≡ z → ValueIs (worked p (take loops is) f) next (fittedIn v to)
-        go g true t = let y : fits32 (valueAt f (take loops is)) ≡ true = subst (λ (v : ℤ). fits32 v ≡ true) (g .0) t in rw (t, y) g
-        go g false t = let y : fits32 (valueAt f (take loops is)) ≡ false = subst (λ (v : ℤ). fits32 v ≡ false) (g .0) t in rw (t, y) refl
+    pub value-formed : Values s at loops is (Is v to)
+    unfolding Values
+    value-formed f next q h l = let g = formed f next q h l in ap₂ (λ (v : ℤ) (to : ℕ). Is v to) (g .0) (g .1)
 
--- the code's two tests of 32 signed bits, on a number read back from its bits
-module _ (v : ℤ) (next : ℕ) (f : SFits w64 v) where
-  below : ltZ (toZ w64 (ofZ w64 v)) (negsuc 2147483647) ≡ true → fits32 v ≡ false
-  below e = go v (rw (toZ-ofZ {w = w64} {z = v} f) at e)
-    where
-      go : (v : ℤ) → ltZ v (negsuc 2147483647) ≡ true → fits32 v ≡ false
-      go (pos n) e = absurd (false≢true e)
-      go (negsuc n) e = let h = ltb-true 2147483647 n e in rw (lt-leb n 2147483647 h)
+-- an answer is one value or none
+pub values-none : {r : Valued} {x : ℤ} {next k : ℕ} {P : Type 0} → r ≡ Is x next → r ≡ No k → P
+values-none {r} {x} {next} {k} e q = absurd (let g : _≡_ {A = Valued} (No k) (Is x next) = sym q ∙ e in let z : _≡_ {A = ℕ} 0 1 = cc in omega arith)
 
-  above : ltZ (pos 2147483647) (toZ w64 (ofZ w64 v)) ≡ true → fits32 v ≡ false
-  above e = go v (rw (toZ-ofZ {w = w64} {z = v} f) at e)
-    where
-      go : (v : ℤ) → ltZ (pos 2147483647) v ≡ true → fits32 v ≡ false
-      go (pos n) e = let h = ltb-true 2147483647 n e in lt-leb n 2147483647 h
-      go (negsuc n) e = absurd (false≢true e)
-
-  between : ltZ (toZ w64 (ofZ w64 v)) (negsuc 2147483647) ≡ false → ltZ (pos 2147483647) (toZ w64 (ofZ w64 v)) ≡ false → fits32 v ≡ true
-  between e g = go v (rw (toZ-ofZ {w = w64} {z = v} f) at e) (rw (toZ-ofZ {w = w64} {z = v} f) at g)
-    where
-      go : (v : ℤ) → ltZ v (negsuc 2147483647) ≡ false → ltZ (pos 2147483647) v ≡ false → fits32 v ≡ true
-      go (pos n) e g = let h = ltb-false 2147483647 n g in le-leb n 2147483647 h
-      go (negsuc n) e g = let h = ltb-false 2147483647 n e in rw (le-leb n 2147483647 h)
-
-  pub fitted-below : ltZ (toZ w64 (ofZ w64 v)) (negsuc 2147483647) ≡ true → No 21 ≡ fittedIn v next
-  unfolding fittedIn
-  fitted-below e = rw (below e)
-
-  pub fitted-above : ltZ (pos 2147483647) (toZ w64 (ofZ w64 v)) ≡ true → No 21 ≡ fittedIn v next
-  unfolding fittedIn
-  fitted-above e = rw (above e)
-
-  pub fitted-between : ltZ (toZ w64 (ofZ w64 v)) (negsuc 2147483647) ≡ false → ltZ (pos 2147483647) (toZ w64 (ofZ w64 v)) ≡ false → Is (toZ w64 (ofZ w64 v)) next ≡ fittedIn v next
-  unfolding fittedIn
-  fitted-between e g = rw (between e g, toZ-ofZ {w = w64} {z = v} f)
+pub values-some : {r : Valued} {x y : ℤ} {next to : ℕ} → r ≡ Is x next → r ≡ Is y to → (y ≡ x) × (to ≡ next)
+values-some {r} {x} {y} {next} {to} e q = let g : _≡_ {A = Valued} (Is y to) (Is x next) = sym q ∙ e in (cc, cc)

@@ -20,10 +20,10 @@ use Rattle.reader.specs.Syntax.Items.{end, item}
 use Rattle.reader.specs.Grammar.{form, step, statementOf, loopOf, guardOf, itemOf, nested, items, body}
 use Rattle.reader.proofs.Binds.{not-got, read-by, choose-by}
 use Rattle.reader.proofs.Bytes.{byte-is, byte-not}
-use Rattle.unroller.specs.Run.{Ran, ok, stop, _>>=_, ask, valueAt, fits32, worked, fits16, Done, goesOn, indices, rounds, run, runs}
-use Rattle.unroller.specs.Forms.{ValueIs, Values}
+use Rattle.unroller.specs.Run.{Ran, ok, stop, _>>=_, ask, valueAt, fits16, Done, goesOn, indices, rounds, run, runs}
+use Rattle.unroller.specs.Forms.{Values}
 use Rattle.unroller.specs.Walk.{Progress, on, Holds, Walked, Based, RunsStatement, RunsItem, RunsItems}
-use Rattle.unroller.specs.WalkItems.{Ends, within16, ranged, round, RangeIs, Steps, Ranges, Moves, Passes, RunsNested, RunsRound, RunsRounds}
+use Rattle.unroller.specs.WalkItems.{Ends, within16, round, RangeIs, Steps, Ranges, Moves, Passes, RunsNested, RunsRound, RunsRounds}
 use Rattle.unroller.specs.declared.walk.Walk.{Walk}
 use Rattle.unroller.specs.declared.walk.Walk.the-variants as walk
 use Rattle.unroller.specs.declared.forms.Valued.{Valued}
@@ -32,6 +32,7 @@ use Rattle.unroller.specs.declared.items.Range.{Range}
 use Rattle.unroller.specs.declared.items.Range.the-variants as range
 use Rattle.unroller.proofs.WalkForward.{item-forward}
 use Rattle.unroller.proofs.Indices.{indices-none}
+use Rattle.unroller.proofs.Values.{values-none, values-some}
 
 -- ---- a run and what follows it
 -- a "no" of the item whose code stands at p
@@ -40,25 +41,13 @@ Placed p (ok a) = Unit {0}
 Placed p (stop k q) = q ≡ p
 
 module _ (p : ℕ) where
-  placed-then : {A B : Type 0} (m : Ran A) (g : A → Ran B) → Placed p m → ((a : A) → Placed p (g a)) → Placed p (m >>= g)
-  placed-then (ok a) g h k = k a
-  placed-then (stop q place) g h k = h
-
   placed-ask : {B : Type 0} (k : ℕ) (b : Bool) (g : ℕ → Ran B) → Placed p (g 0) → Placed p (ask k p b >>= g)
   placed-ask k true g h = h
   placed-ask k false g h = refl
 
-  worked-placed : (is : List ℤ) (f : Form) → Placed p (worked p is f)
-  unfolding worked
-  worked-placed is f = placed-ask 21 (fits32 (valueAt f is)) (λ _. ok (valueAt f is)) tt
-
   within-placed : (first last : ℤ) → Placed p (within16 p first last)
   unfolding within16
   within-placed first last = placed-ask 15 (fits16 first && fits16 last) (λ _. ok (record { first = first; last = last })) tt
-
-  ranged-placed : (is : List ℤ) (f g : Form) → Placed p (ranged p is f g)
-  unfolding ranged
-  ranged-placed is f g = placed-then (worked p is f) _ (worked-placed is f) λ a. placed-then (worked p is g) _ (worked-placed is g) λ b. within-placed a b
 
 module _ (t : Tables) where
   walked-stop : (m : Ran Done) (g : Done → Ran Done) (mid next k q : ℕ) (l f l′ f′ : List ℕ) → Walked t mid m (walk.No k q) l f → Walked t next (m >>= g) (walk.No k q) l′ f′
@@ -69,14 +58,6 @@ module _ (t : Tables) where
       → ((d : Done) → at ≡ mid → Holds t d p l f → Walked t next (g d) r l′ f′) → Walked t next (m >>= g) r l′ f′
   walked-step (ok d) g mid next at p r l f l′ f′ w k = k d (w .0) (w .1)
   walked-step (stop a b) g mid next at p r l f l′ f′ w k = absurd w
-
-  value-stop : (m : Ran ℤ) (g : ℤ → Ran Done) (p mid next k : ℕ) (l f : List ℕ) → Placed p m → ValueIs m mid (valued.No k) → Walked t next (m >>= g) (walk.No k p) l f
-  value-stop (ok v) g p mid next k l f h w = absurd w
-  value-stop (stop a b) g p mid next k l f h w = (w, sym h)
-
-  value-step : (m : Ran ℤ) (g : ℤ → Ran Done) (v : ℤ) (to mid next : ℕ) (r : Walk) (l f : List ℕ) → ValueIs m mid (valued.Is v to) → (to ≡ mid → Walked t next (g v) r l f) → Walked t next (m >>= g) r l f
-  value-step (ok x) g v to mid next r l f w k = subst (λ (y : ℤ). Walked t next (g y) r l f) (w .0) (k (w .1))
-  value-step (stop a b) g v to mid next r l f w k = absurd w
 
   range-stop : (m : Ran Ends) (g : Ends → Ran Done) (z : ℤ) (p mid next k : ℕ) (l f : List ℕ) → Placed p m → RangeIs m z mid (range.No k) → Walked t next (m >>= g) (walk.No k p) l f
   range-stop (ok e) g z p mid next k l f h w = absurd w
@@ -233,62 +214,51 @@ module _ (s : List ℕ) (t : Tables) (left less loops at : ℕ) (fewer : left �
 
 module _ (s : List ℕ) (t : Tables) (bases : List ℕ) (left less loops : ℕ) (is : List ℤ) (at : ℕ) (p : Progress) (l f : List ℕ) (fewer : left ≡ suc less) where
   pub guard-stop : (v₀ : Valued) (k : ℕ) (l′ f′ : List ℕ) → v₀ ≡ valued.No k → Values s (at + 1) loops is v₀ → RunsNested s at 3 t bases left loops is p l f (walk.No k at) l′ f′
-  unfolding RunsNested Values run guarded
-  guard-stop v₀ k l′ f′ case v i next d e b8 l8 based h = guard-by s t left less loops at fewer e λ g mid js e1 e2 x.
-      rw x (value-stop t (worked at (take loops is) g) (guarded js t (take loops is) d) at mid next k l′ f′ (worked-placed at (take loops is) g)
-      (subst (λ (r : Valued). ValueIs (worked at (take loops is) g) mid r) case (v g mid at e1 (omega arith) l8)))
+  unfolding RunsNested Values
+  guard-stop v₀ k l′ f′ case v i next d e b8 l8 based h = guard-by s t left less loops at fewer e λ g mid js e1 e2 x. values-none (v g mid e1 (omega arith) l8) case
 
   module _ (v₀ : Valued) (v : ℤ) (to : ℕ) (case : v₀ ≡ valued.Is v to) (w₀ : Values s (at + 1) loops is v₀) (r : Walk) where
-    valued-is : Values s (at + 1) loops is (valued.Is v to)
-    valued-is = subst (Values s (at + 1) loops is) case w₀
-
     pub guard-runs : (l′ f′ : List ℕ) → ltZ v (pos 0) ≡ false → RunsItems s to t bases less loops is p l f r l′ f′ → RunsNested s at 3 t bases left loops is p l f r l′ f′
     unfolding RunsNested RunsItems Values run guarded body
     guard-runs l′ f′ z u i next d e b8 l8 based h = guard-by s t left less loops at fewer e λ g mid js e1 e2 x.
-        rw x (value-step t (worked at (take loops is) g) (guarded js t (take loops is) d) v to mid next r l′ f′ (valued-is g mid at e1 (omega arith) l8)
-        λ q. subst (λ (m : Ran Done). Walked t next m r l′ f′) (sym (guarded-runs js t (take loops is) d v z))
-        (u js next (length s) d (ap (body t (length s) less loops s) q ∙ e2) (omega arith) l8 based h))
+        let q = values-some (w₀ g mid e1 (omega arith) l8) case in
+        rw x (subst (λ (m : Ran Done). Walked t next m r l′ f′) (sym (ap (guarded js t (take loops is) d) (sym (q .0)) ∙ guarded-runs js t (take loops is) d v z))
+        (u js next (length s) d (ap (body t (length s) less loops s) (q .1) ∙ e2) (omega arith) l8 based h))
 
     pub guard-passes : ltZ v (pos 0) ≡ true → Passes s to t less loops p r → RunsNested s at 3 t bases left loops is p l f r l f
     unfolding RunsNested Passes Values run guarded
     guard-passes z u i next d e b8 l8 based h = guard-by s t left less loops at fewer e λ g mid js e1 e2 x.
-        rw x (value-step t (worked at (take loops is) g) (guarded js t (take loops is) d) v to mid next r l f (valued-is g mid at e1 (omega arith) l8)
-        λ q. subst (λ (m : Ran Done). Walked t next m r l f) (sym (guarded-passes js t (take loops is) d v z))
-        (subst (λ (r : Walk). Walked t next (ok d) r l f) (sym (u js next (ap (body t (length s) less loops s) q ∙ e2) (omega arith))) (refl, h)))
+        let q = values-some (w₀ g mid e1 (omega arith) l8) case in
+        rw x (subst (λ (m : Ran Done). Walked t next m r l f) (sym (ap (guarded js t (take loops is) d) (sym (q .0)) ∙ guarded-passes js t (take loops is) d v z))
+        (subst (λ (r : Walk). Walked t next (ok d) r l f) (sym (u js next (ap (body t (length s) less loops s) (q .1) ∙ e2) (omega arith))) (refl, h)))
 
 -- ---- loops
 rounded : ℕ → ℤ → Items → Tables → List ℤ → Done → Ends → Ran Done
 rounded p z js t is d e = rounds (indices 65536 z (e .last) (e .first)) p (λ i d′. runs js t (is ++ (i ∷ [])) d′) d
 
-loop-run : (p : ℕ) (g h : Form) (z : ℤ) (js : Items) (t : Tables) (is : List ℤ) (d : Done) → run (loop p g h z js) t is d ≡ (ranged p is g h >>= rounded p z js t is d)
-unfolding run ranged within16 rounded
-loop-run p g h z js t is d = go (worked p is g) (worked p is h)
+loop-run : (p : ℕ) (g h : Form) (z : ℤ) (js : Items) (t : Tables) (is : List ℤ) (d : Done) → run (loop p g h z js) t is d ≡ (within16 p (valueAt g is) (valueAt h is) >>= rounded p z js t is d)
+unfolding run within16 rounded
+loop-run p g h z js t is d = asked (fits16 (valueAt g is) && fits16 (valueAt h is))
   where
-    asked : (a b : ℤ) (k : Bool) → (ask 15 p k >>= λ _. rounded p z js t is d (record { first = a; last = b })) ≡ ((ask 15 p k >>= λ _. ok (record { first = a; last = b })) >>= rounded p z js t is d)
-    asked a b true = refl
-    asked a b false = refl
-
-    go : (m n : Ran ℤ) → (m >>= λ a. n >>= λ b. ask 15 p (fits16 a && fits16 b) >>= λ _. rounded p z js t is d (record { first = a; last = b }))
-        ≡ ((m >>= λ a. n >>= λ b. ask 15 p (fits16 a && fits16 b) >>= λ _. ok (record { first = a; last = b })) >>= rounded p z js t is d)
-    go (ok a) (ok b) = asked a b (fits16 a && fits16 b)
-    go (ok a) (stop k q) = refl
-    go (stop k q) n = refl
+    asked : (k : Bool) → (ask 15 p k >>= λ _. rounded p z js t is d (record { first = valueAt g is; last = valueAt h is })) ≡ ((ask 15 p k >>= λ _. ok (record { first = valueAt g is; last = valueAt h is })) >>= rounded p z js t is d)
+    asked true = refl
+    asked false = refl
 
 module _ (s : List ℕ) (t : Tables) (bases : List ℕ) (left less loops : ℕ) (is : List ℤ) (at : ℕ) (p : Progress) (l f : List ℕ) (fewer : left ≡ suc less) where
   pub loop-stop : (r₀ : Range) (k : ℕ) (l′ f′ : List ℕ) → r₀ ≡ range.No k → Ranges s (at + 1) loops is r₀ → RunsNested s at 2 t bases left loops is p l f (walk.No k at) l′ f′
   unfolding RunsNested Ranges
   loop-stop r₀ k l′ f′ case v i next d e b8 l8 based h = loop-by s t left less loops at fewer e λ g g′ z m n to js e1 e2 e3 e4 x.
       rw (x, loop-run at g g′ z js t (take loops is) d)
-      (range-stop t (ranged at (take loops is) g g′) (rounded at z js t (take loops is) d) z at to next k l′ f′ (ranged-placed at (take loops is) g g′)
-      (subst (λ (r : Range). RangeIs (ranged at (take loops is) g g′) z to r) case (v g g′ z m n to at e1 e2 e3 (omega arith) l8)))
+      (range-stop t (within16 at (valueAt g (take loops is)) (valueAt g′ (take loops is))) (rounded at z js t (take loops is) d) z at to next k l′ f′ (within-placed at (valueAt g (take loops is)) (valueAt g′ (take loops is)))
+      (subst (λ (r : Range). RangeIs (within16 at (valueAt g (take loops is)) (valueAt g′ (take loops is))) z to r) case (v g g′ z m n to at e1 e2 e3 (omega arith) l8)))
 
   pub loop-runs : (r₀ : Range) (a b c : ℤ) (from : ℕ) (r : Walk) (l′ f′ : List ℕ) → r₀ ≡ range.Over a b c from → Ranges s (at + 1) loops is r₀
       → RunsRounds s at from t bases less loops is c b 65536 a 0 p l f r l′ f′ → RunsNested s at 2 t bases left loops is p l f r l′ f′
   unfolding RunsNested Ranges RunsRounds rounded
   loop-runs r₀ a b c from r l′ f′ case v u i next d e b8 l8 based h = loop-by s t left less loops at fewer e λ g g′ z m n to js e1 e2 e3 e4 x.
       rw (x, loop-run at g g′ z js t (take loops is) d)
-      (range-step t (ranged at (take loops is) g g′) (rounded at z js t (take loops is) d) z a b c from to next r l′ f′
-      (subst (λ (r : Range). RangeIs (ranged at (take loops is) g g′) z to r) case (v g g′ z m n to at e1 e2 e3 (omega arith) l8))
+      (range-step t (within16 at (valueAt g (take loops is)) (valueAt g′ (take loops is))) (rounded at z js t (take loops is) d) z a b c from to next r l′ f′
+      (subst (λ (r : Range). RangeIs (within16 at (valueAt g (take loops is)) (valueAt g′ (take loops is))) z to r) case (v g g′ z m n to at e1 e2 e3 (omega arith) l8))
       λ q1 q2. subst (λ (z : ℤ). Walked t next (rounded at z js t (take loops is) d (record { first = a; last = b })) r l′ f′) q1
       (u js next d (ap (body t (length s) less (loops + 1) s) q2 ∙ e4) (omega arith) l8 (λ k. absurd (omega arith)) based h))
 

@@ -5,12 +5,13 @@ use mathlib.Core.List.{List, [], _∷_, _++_}
 use mathlib.Core.Bool.{Bool, true, false, _&&_, _||_, not}
 use lib.ListN.{length, getD}
 use lib.Dec.{ltb, leb, eqb}
+use lib.IntN.{ℤ}
 use Rattle.model.specs.Test.{within, every, total}
 use Rattle.model.specs.Tables.{Array, Tables, cells, arrayAt, local, inside}
 use Rattle.model.specs.Update.{Tree, Trees, Update, Listed, nodes}
 use Rattle.model.specs.Update.Tree.{cell, number, constant, operator}
 use Rattle.model.specs.Update.Trees.{nil, cons}
-use Rattle.unroller.specs.Run.{fits32, readable}
+use Rattle.unroller.specs.Run.{signed, readable}
 
 -- no other role after a local; `after`: a local came just before
 abbrev pub localsLast : Bool → List Array → Bool
@@ -27,6 +28,10 @@ allowedTables t =
     && (every (within 1 4) (t .arities)
     && (within 1 16 (length (t .arrays))
     && (every allowedArray (t .arrays) && (localsLast false (t .arrays) && leb (total (λ x. cells (x .extents)) (t .arrays)) 2048))))
+
+-- lies in 32 signed bits
+abbrev pub fits32 : ℤ → Bool
+fits32 = signed 2147483647
 
 -- an expression over these tables: operators at most `left` deep, literals of 32 signed bits
 unfoldable mutual

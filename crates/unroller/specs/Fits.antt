@@ -1,5 +1,4 @@
 -- The forms that a file can hold.
-use mathlib.Core.List.{List}
 use mathlib.Core.Bool.{Bool, _&&_}
 use lib.ListN.{length}
 use lib.Dec.{leb}

@@ -6,6 +6,7 @@ pub mod Layout
 pub mod Decode
 pub mod Unroll
 pub mod Fits
+pub mod Asking
 pub mod State
 pub mod CheckAnswers
 pub mod Stands

@@ -45,7 +45,7 @@ abbrev pub toldOf : Ran Listed → Option Origin → Told
 toldOf (ok l) o = told o
 toldOf (stop question place) o = unwritten (refused left question place)
 
--- 25, then 2 to 21; a and e: the element; n: the words of the lent list
+-- 25, then 2 to 20; a and e: the element; n: the words of the lent list
 unfoldable pub originReply : List ℕ → ℕ → ℕ → ℕ → Told
 originReply s a e n = if leb listWords n then toldOf (unrolled s) (originOf s a e) else unwritten (refused both 25 0)
 

@@ -1,4 +1,4 @@
--- The run of a program (docs/FORMAT.md, "The run"): its updates in order, or the first of the questions 15 to 21 whose answer is no.
+-- The run of a program (docs/FORMAT.md, "The run"): its updates in order, or the first of the questions 15 to 20 whose answer is no.
 use Prim.Native.Nat.{ℕ, zero, suc, _+_, _*_}
 use mathlib.Core.List.{List, [], _∷_, _++_}
 use mathlib.Core.Bool.{Bool, true, false, _&&_, _||_, not}
@@ -39,20 +39,6 @@ products (c ∷ cs) (i ∷ is) = c *ℤ i +ℤ products cs is
 abbrev pub valueAt : Form → List ℤ → ℤ
 valueAt f is = f .constant +ℤ products (f .coefficients) is
 
--- at least −m − 1 and at most m
-abbrev pub signed : ℕ → ℤ → Bool
-signed m z = leZ (negsuc m) z && leZ z (pos m)
-
--- lies in 32 signed bits
-abbrev pub fits32 : ℤ → Bool
-fits32 = signed 2147483647
-
--- the value of a form, for the item whose code stands at p
-unfoldable pub worked : ℕ → List ℤ → Form → Ran ℤ
-worked p is f = do
-  _ ← ask 21 p (fits32 (valueAt f is))
-  ok (valueAt f is)
-
 -- is a subscript inside its extent? 16
 abbrev pub inExtent : ℕ → ℕ → ℤ → Ran ℕ
 inExtent p e (pos v) = do
@@ -65,8 +51,7 @@ unfoldable pub cellFrom : ℕ → List ℤ → ℕ → List ℕ → List Form �
 cellFrom p is n [] fs = ok n
 cellFrom p is n (e ∷ es) [] = ok n
 cellFrom p is n (e ∷ es) (f ∷ fs) = do
-  v ← worked p is f
-  k ← inExtent p e v
+  k ← inExtent p e (valueAt f is)
   cellFrom p is (n * e + k) es fs
 
 unfoldable pub cellAt : Tables → ℕ → List ℤ → ℕ → List Form → Ran ℕ
@@ -80,9 +65,7 @@ unfoldable mutual
   tree (apply o es) t p is = do
     ts ← trees es t p is
     ok (operator o ts)
-  tree (literal f) t p is = do
-    v ← worked p is f
-    ok (number v)
+  tree (literal f) t p is = ok (number (valueAt f is))
   tree (named n) t p is = ok (constant n)
 
   pub trees : Exprs → Tables → ℕ → List ℤ → Ran Trees
@@ -110,7 +93,7 @@ pub record Done : Type 0 where
   pub nodes : ℕ
   pub updates : List Update
 
--- an executed statement: 19, 20, 16 (with 21) of target and reads, 17
+-- an executed statement: 19, 20, 16 of target and reads, 17
 unfoldable pub update : Tables → ℕ → List ℤ → ℕ → List Form → Expr → Done → Ran Done
 update t p is a fs e d = do
   _ ← ask 19 p (leb (length (d .updates) + 1) 2048)
@@ -138,6 +121,10 @@ rounds (i ∷ is) p body d = do
   d′ ← body i (record { rounds = d .rounds + 1; nodes = d .nodes; updates = d .updates })
   rounds is p body d′
 
+-- at least −m − 1 and at most m
+abbrev pub signed : ℕ → ℤ → Bool
+signed m z = leZ (negsuc m) z && leZ z (pos m)
+
 -- lies in 16 signed bits
 abbrev pub fits16 : ℤ → Bool
 fits16 = signed 32767
@@ -146,13 +133,9 @@ unfoldable mutual
   pub run : Item → Tables → List ℤ → Done → Ran Done
   run (statement p a fs e) t is d = update t p is a fs e d
   run (loop p s e step body) t is d = do
-    first ← worked p is s
-    last ← worked p is e
-    _ ← ask 15 p (fits16 first && fits16 last)
-    rounds (indices 65536 step last first) p (λ i d′. runs body t (is ++ (i ∷ [])) d′) d
-  run (guard p f body) t is d = do
-    v ← worked p is f
-    elim (leZ (pos 0) v) as (λ b. Ran Done) [ true ↦ runs body t is d | false ↦ ok d ]
+    _ ← ask 15 p (fits16 (valueAt s is) && fits16 (valueAt e is))
+    rounds (indices 65536 step (valueAt e is) (valueAt s is)) p (λ i d′. runs body t (is ++ (i ∷ [])) d′) d
+  run (guard p f body) t is d = elim (leZ (pos 0) (valueAt f is)) as (λ b. Ran Done) [ true ↦ runs body t is d | false ↦ ok d ]
 
   pub runs : Items → Tables → List ℤ → Done → Ran Done
   runs end t is d = ok d

@@ -25,7 +25,7 @@ abbrev pub unrolledBy : Outcome Program → Ran Listed
 unrolledBy (got p next) = listedBy (p .tables) (runProgram p)
 unrolledBy (no question place) = stop question place
 
--- the update list of a program, or a number of 2 to 21 with its place
+-- the update list of a program, or a number of 2 to 20 with its place
 unfoldable pub unrolled : List ℕ → Ran Listed
 unrolled bytes = unrolledBy (readProgram bytes)
 

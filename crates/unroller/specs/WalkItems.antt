@@ -10,7 +10,7 @@ use Rattle.model.specs.Tables.{Tables}
 use Rattle.reader.specs.Field.{got}
 use Rattle.reader.specs.Syntax.{Form, Item, Items}
 use Rattle.reader.specs.Grammar.{form, step, nested, body}
-use Rattle.unroller.specs.Run.{Ran, ok, stop, _>>=_, ask, worked, fits16, Done, indices, rounds, run, runs}
+use Rattle.unroller.specs.Run.{Ran, ok, stop, _>>=_, ask, valueAt, fits16, Done, indices, rounds, run, runs}
 use Rattle.unroller.specs.Walk.{Progress, on, Holds, Walked, Based}
 use Rattle.unroller.specs.declared.walk.Walk.{Walk}
 use Rattle.unroller.specs.declared.items.Range.{Range}
@@ -26,13 +26,6 @@ unfoldable pub within16 : ℕ → ℤ → ℤ → Ran Ends
 within16 p first last = do
   _ ← ask 15 p (fits16 first && fits16 last)
   ok (record { first = first; last = last })
-
--- a loop's start and end, worked out once on entry
-unfoldable pub ranged : ℕ → List ℤ → Form → Form → Ran Ends
-ranged p is f g = do
-  first ← worked p is f
-  last ← worked p is g
-  within16 p first last
 
 -- one round of the loop at p
 unfoldable pub round : ℕ → (Done → Ran Done) → Done → Ran Done
@@ -55,7 +48,7 @@ Steps s at first last r = (z : ℤ) (next p : ℕ) → step s at ≡ got z next 
 unfoldable pub Ranges : List ℕ → ℕ → ℕ → List ℤ → Range → Type 0
 Ranges s at loops is r =
     (f g : Form) (z : ℤ) (m n next p : ℕ) → form loops s at ≡ got f m → form loops s m ≡ got g n → step s n ≡ got z next → loops ≤ 8 → length is ≡ 8
-    → RangeIs (ranged p (take loops is) f g) z next r
+    → RangeIs (within16 p (valueAt f (take loops is)) (valueAt g (take loops is))) z next r
 
 -- no step is 0, whatever the bytes are
 abbrev pub Moves : Range → Type 0

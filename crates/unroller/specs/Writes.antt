@@ -16,7 +16,7 @@ use Rattle.reader.specs.Syntax.{Form, Expr, count}
 use Rattle.reader.specs.Grammar.{form, subscripts, readOf, literalOf, constantOf, node, applied, expression}
 use Rattle.reader.specs.declared.fields.Field.{Field}
 use Rattle.reader.specs.declared.fields.Field.the-variants as field
-use Rattle.unroller.specs.Run.{Ran, ok, stop, _>>=_, worked, inExtent, cellFrom, cellAt, tree, Done, update}
+use Rattle.unroller.specs.Run.{Ran, ok, stop, _>>=_, valueAt, inExtent, cellFrom, cellAt, tree, Done, update}
 use Rattle.unroller.specs.Allowed.{allowedTables}
 use Rattle.unroller.specs.Layout.{treeWords, updateWords}
 use Rattle.unroller.specs.Walk.{Progress, Based, Holds, Walked}
@@ -46,7 +46,7 @@ InExtent e v next r = (p : ℕ) → CellIs (inExtent p e v) next r
 
 unfoldable pub Subscript : List ℕ → ℕ → ℕ → List ℤ → ℕ → Cell → Type 0
 Subscript s at loops is e r =
-    (f : Form) (next p : ℕ) → form loops s at ≡ got f next → loops ≤ 8 → length is ≡ 8 → CellIs (worked p (take loops is) f >>= inExtent p e) next r
+    (f : Form) (next p : ℕ) → form loops s at ≡ got f next → loops ≤ 8 → length is ≡ 8 → CellIs (inExtent p e (valueAt f (take loops is))) next r
 
 -- the subscripts at `at`, one for each of the extents es; n is made of those before them
 unfoldable pub CellsFrom : List ℕ → ℕ → ℕ → List ℤ → ℕ → List ℕ → Cell → Type 0

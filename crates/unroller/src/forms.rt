@@ -5,7 +5,7 @@ ghost use lib.IntN.{_+ℤ_, _*ℤ_, natAbs};
 ghost use mir.Syntax.{w8};
 ghost use mir.Val.{ofZ};
 ghost use Rattle.unroller.specs.Run.{goesOn};
-ghost use Rattle.unroller.specs.Forms.{formSum, Packs, fittedIn, Values};
+ghost use Rattle.unroller.specs.Forms.{formSum, Packs, Values, Small};
 use reader::fields::Place;
 use reader::fields::i8_of;
 use reader::forms::form_at;
@@ -67,22 +67,10 @@ pub(crate) enum Valued {
     No(u8),
 }
 
-// Does a form's value fit in 32 signed bits? 21
-fn fitted(value: i64, next: usize) -> Valued
-    ensures { λ r. ⌜ r ≡ fittedIn value next ⌝ }
-{
-    if value < -2147483648 {
-        return Valued::No(21);
-    }
-    if value > 2147483647 {
-        return Valued::No(21);
-    }
-    Valued::Is(value, next)
-}
-
 // Works out the form at `at` inside `loops` loops.
 pub(crate) fn value_at(program: &[u8], at: usize, loops: usize, indices: [i16; 8]) -> Valued
-    ensures { λ r. ⌜ Values (now (program .entry)) at loops indices r ⌝ }
+    ensures value { λ r. ⌜ Values (now (program .entry)) at loops indices r ⌝ }
+    ensures bound { λ r. ⌜ Small r ⌝ }
 {
     let form = form_at(program, at, loops);
     let answer = form.answer;
@@ -90,8 +78,7 @@ pub(crate) fn value_at(program: &[u8], at: usize, loops: usize, indices: [i16; 8
         Place::Not(number, _) => Valued::No(number),
         Place::Next(next) => {
             let coefficients = form.coefficients;
-            let v = form_value(form.constant, coefficients, indices);
-            fitted(v, next)
+            Valued::Is(form_value(form.constant, coefficients, indices), next)
         }
     }
 }

@@ -9,7 +9,7 @@ ghost use lib.Dec.{ltb};
 ghost use mir.Syntax.{w32};
 ghost use mir.Val.{ofZ};
 ghost use Rattle.reader.specs.Entries.{viewed, tablesIn};
-ghost use Rattle.unroller.specs.Run.{fits32};
+ghost use Rattle.unroller.specs.Allowed.{fits32};
 ghost use Rattle.unroller.specs.Walk.{progress, RunsStatement};
 ghost use Rattle.unroller.specs.Writes.{InExtent, Below, Subscript, CellOf, WritesRead, WritesLiteral, WritesConstant, WritesLeaf, WritesOperator, leafRecord, WritesRecord, Roomy, WritesNode, Ends, spot, mayRead, recordFine, scanned, Marks, WritesUpdate, Within, Sources, FewNodes, RunsUpdate};
 ghost use Rattle.model.specs.Memory.{listWords};

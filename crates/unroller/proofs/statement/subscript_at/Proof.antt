@@ -16,10 +16,10 @@ in-extent-requires : tie.Need-in-extent-requires
 in-extent-requires c κs = search needs
 
 returns : tie.Need-returns
-returns c = (subscript-no _ _ _ _ _ (c .before .before .before .value-at .result) _ (c .before .before .before .value-at .ensures) (c .before .number .given .1), tt)
+returns c = (subscript-no _ _ _ _ _ (c .before .before .before .value-at .result) _ (c .before .before .before .value-at .ensures .0) (c .before .number .given .1), tt)
 
 returns-2 : tie.Need-returns-2
-returns-2 c = (subscript-is _ _ _ _ _ (c .before .before .before .before .value-at .result) _ _ _ (search needs) (c .before .before .before .before .value-at .ensures) (c .before .before .v .given .1) (c .in-extent .ensures .0), c .in-extent .ensures .1)
+returns-2 c = (subscript-is _ _ _ _ _ (c .before .before .before .before .value-at .result) _ _ _ (search needs) (c .before .before .before .before .value-at .ensures .0) (c .before .before .v .given .1) (c .in-extent .ensures .0), c .in-extent .ensures .1)
 
 pub subscript-at-spec : {M : Type 1} → statement M
 subscript-at-spec =
