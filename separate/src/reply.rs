@@ -24,7 +24,6 @@ pub enum Question {
     Rounds = 18,
     Updates = 19,
     Nodes = 20,
-    // 21, "does each form's value fit", has no case: see `run::value`.
     SameArrays = 22,
     SameOperators = 23,
     Terms = 24,

@@ -89,8 +89,8 @@ struct Run<'a, W> {
     watch: &'a mut W,
 }
 
-/// The widest value is -32,768 - 8 * 128 * 32,768, so 32 signed bits always
-/// hold it and question 21 never has a "no".
+/// No value is larger than 32,768 + 8 * 128 * 32,768, so 32 signed bits hold
+/// each.
 fn value(form: &Form, indices: &Indices) -> i32 {
     const WIDEST: i64 = (1 << 15) + (ITEM_NESTING as i64) * (1 << 7) * (1 << 15);
     const { assert!(WIDEST <= i32::MAX as i64) };

@@ -386,7 +386,7 @@ fn last_subscript_fastest() {
     assert_eq!([list[100], list[106], list[112]], [23, 4, 13]);
 }
 
-// The left side is asked 2..21 whole before the right is looked at.
+// The left side is asked 2 to 20 whole before the right is looked at.
 
 #[test]
 fn the_left_side_comes_first() {

@@ -183,7 +183,7 @@ fn bounds_of_16_bits() {
     assert_eq!(refusal_of_text(&outer(1, "-32768 - i")), Some((15, 18)));
 }
 
-/// The widest value a form can have is far from 32 bits, so 21 never occurs.
+/// The widest value that a form can have.
 #[test]
 fn the_widest_form() {
     let mut text = "array A out [1]\n".to_string();
