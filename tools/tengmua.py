@@ -652,12 +652,14 @@ def explain(line, files, origins, places):
 
 
 def question_row(number):
-    """The cells of a question's row in docs/QUESTIONS.md."""
+    """The cells of a question's row in docs/QUESTIONS.md, which has a line for a retired number."""
     with open(os.path.join(ROOT, 'docs', 'QUESTIONS.md'), encoding='utf-8') as file:
         for line in file:
             cells = [cell.strip() for cell in line.strip().strip('|').split('|')]
             if len(cells) == 5 and cells[0] == str(number):
                 return cells
+            if line.startswith(f'- {number}, "'):
+                raise Failure(f'question {number} is retired: {line.strip().split(", ", 1)[1]}')
     raise Failure(f"'{number}' is no question: they have the numbers 1 to 27")
 
 
