@@ -80,8 +80,8 @@ question21 = run-question21
 
 pub replies-without21 : RepliesWithout21
 unfolding programsReply
-replies-without21 mask one other b c =
-    ap₂ (λ (m n : Ran Listed). sideReply left m (λ x. sideReply right n (λ y. listsReply mask x y))) (unrolled-question21 one b) (unrolled-question21 other c)
+replies-without21 mask one other =
+    ap₂ (λ (m n : Ran Listed). sideReply left m (λ x. sideReply right n (λ y. listsReply mask x y))) (unrolled-question21 one) (unrolled-question21 other)
 
 pub free-stands-for-all : FreeStandsForAll
 free-stands-for-all S m h t σ = meaning-of-value m h t σ

@@ -119,12 +119,12 @@ FormsFit = (f : Form) (is : List ℤ) → narrow f ≡ true → every fits16 is 
 -- Question 21 is retired. For every file that was read, the run that asks it as each form is worked out (`Asking`) has the outcome of
 -- the run that does not,
 abbrev pub Question21 : Type 0
-Question21 = (bytes : List ℕ) (p : Program) (next : ℕ) → ((i : ℕ) → getD bytes i 0 < 256) → readProgram bytes ≡ got p next → Asking.runProgram p ≡ runProgram p
+Question21 = (bytes : List ℕ) (p : Program) (next : ℕ) → readProgram bytes ≡ got p next → Asking.runProgram p ≡ runProgram p
 
 -- and every reply to two programs is what it was.
 abbrev pub RepliesWithout21 : Type 0
 RepliesWithout21 =
-    (mask : ℕ) (one other : List ℕ) → ((i : ℕ) → getD one i 0 < 256) → ((i : ℕ) → getD other i 0 < 256)
+    (mask : ℕ) (one other : List ℕ)
     → sideReply left (Asking.unrolled one) (λ x. sideReply right (Asking.unrolled other) (λ y. listsReply mask x y)) ≡ programsReply mask one other
 
 -- No input is answered otherwise for being cut behind byte 32,771, which is what the program reads.

@@ -31,30 +31,39 @@ use Rattle.reader.specs.Grammar.{head, arity, operators, extent, array, arrays,
 use Rattle.unroller.proofs.Fits.{indices-fit, forms-fit, fits8-toZ, fits16-toZ}
 use Rattle.unroller.proofs.Runs.{run-by, ask-by, ok-is, Unrolls, unrolls, unrolled-reads}
 
--- what an expression of an accepted file has: declared arrays and operators, narrow forms, as many subscripts as extents, as many arguments as the arity
-unfoldable mutual
-  pub Sound : Expr → Tables → ℕ → Type 0
-  Sound (read a fs) t left = (length fs ≡ length (arrayAt (t .arrays) a .extents)) × (every narrow fs ≡ true)
-  Sound (apply o es) t zero = ⊥
-  Sound (apply o es) t (suc left) = (o < length (t .arities)) × SoundAll es t left (getD (t .arities) o 0)
-  Sound (literal f) t left = narrow f ≡ true
-  Sound (named n) t left = n < 4294967296
+-- what may be known of a name: that it has 32 bits, or nothing
+abbrev Word : ℕ → Type 0
+Word n = n < 4294967296
 
-  pub SoundAll : Exprs → Tables → ℕ → ℕ → Type 0
-  SoundAll none t left zero = Unit {0}
-  SoundAll none t left (suc n) = ⊥
-  SoundAll (more e es) t left zero = ⊥
-  SoundAll (more e es) t left (suc n) = Sound e t left × SoundAll es t left n
+abbrev pub Any : ℕ → Type 0
+Any n = Unit {0}
 
-unfoldable mutual
-  pub SoundItem : Item → Tables → Type 0
-  SoundItem (statement p a fs e) t = (length fs ≡ length (arrayAt (t .arrays) a .extents)) × (every narrow fs ≡ true) × (not (eqb (arrayAt (t .arrays) a .role) 0) ≡ true) × Sound e t 12
-  SoundItem (loop p s e step body) t = (narrow s ≡ true) × (narrow e ≡ true) × SoundItems body t
-  SoundItem (guard p f body) t = (narrow f ≡ true) × SoundItems body t
+-- What an expression of an accepted file has: declared arrays and operators, narrow forms, as many subscripts as extents, as many arguments as the arity.
+-- Name: what is known of a constant's name.
+module _ (Name : ℕ → Type 0) where
+  unfoldable mutual
+    pub Sound : Expr → Tables → ℕ → Type 0
+    Sound (read a fs) t left = (length fs ≡ length (arrayAt (t .arrays) a .extents)) × (every narrow fs ≡ true)
+    Sound (apply o es) t zero = ⊥
+    Sound (apply o es) t (suc left) = (o < length (t .arities)) × SoundAll es t left (getD (t .arities) o 0)
+    Sound (literal f) t left = narrow f ≡ true
+    Sound (named n) t left = Name n
 
-  pub SoundItems : Items → Tables → Type 0
-  SoundItems end t = Unit {0}
-  SoundItems (item i rest) t = SoundItem i t × SoundItems rest t
+    pub SoundAll : Exprs → Tables → ℕ → ℕ → Type 0
+    SoundAll none t left zero = Unit {0}
+    SoundAll none t left (suc n) = ⊥
+    SoundAll (more e es) t left zero = ⊥
+    SoundAll (more e es) t left (suc n) = Sound e t left × SoundAll es t left n
+
+  unfoldable mutual
+    pub SoundItem : Item → Tables → Type 0
+    SoundItem (statement p a fs e) t = (length fs ≡ length (arrayAt (t .arrays) a .extents)) × (every narrow fs ≡ true) × (not (eqb (arrayAt (t .arrays) a .role) 0) ≡ true) × Sound e t 12
+    SoundItem (loop p s e step body) t = (narrow s ≡ true) × (narrow e ≡ true) × SoundItems body t
+    SoundItem (guard p f body) t = (narrow f ≡ true) × SoundItems body t
+
+    pub SoundItems : Items → Tables → Type 0
+    SoundItems end t = Unit {0}
+    SoundItems (item i rest) t = SoundItem i t × SoundItems rest t
 
 extent-below : (p e : ℕ) (v : ℤ) {k : ℕ} → inExtent p e v ≡ ok k → k < e
 extent-below p e (pos v) r = ask-by 16 p (ltb v e) _ r λ h r1. ok-is (λ k. k < e) r1 (ltb-true v e h)
@@ -95,11 +104,11 @@ unfoldable mutual
   DeclaredAll (cons x xs) t = Declared x t × DeclaredAll xs t
 
 -- those of a tree that an expression gives, whatever the index values are
-module _ (t : Tables) (p : ℕ) (is : List ℤ) where
+module _ (Name : ℕ → Type 0) (t : Tables) (p : ℕ) (is : List ℤ) where
   mutual
     unfolding tree trees Sound SoundAll Declared DeclaredAll
 
-    pub tree-declared : (e : Expr) (left : ℕ) (x : Tree) → Sound e t left → tree e t p is ≡ ok x → Declared x t
+    pub tree-declared : (e : Expr) (left : ℕ) (x : Tree) → Sound Name e t left → tree e t p is ≡ ok x → Declared x t
     tree-declared (read a fs) left x s r =
         run-by (cellAt t p is a fs) _ r λ c e1 r1.
         ok-is (λ x. Declared x t) r1 (cell-at-inside t p is a fs (s .0) e1)
@@ -110,7 +119,7 @@ module _ (t : Tables) (p : ℕ) (is : List ℤ) where
     tree-declared (literal f) left x s r = ok-is (λ x. Declared x t) r tt
     tree-declared (named n) left x s r = ok-is (λ x. Declared x t) r tt
 
-    trees-declared : (es : Exprs) (left m : ℕ) (xs : Trees) → SoundAll es t left m → trees es t p is ≡ ok xs → DeclaredAll xs t
+    trees-declared : (es : Exprs) (left m : ℕ) (xs : Trees) → SoundAll Name es t left m → trees es t p is ≡ ok xs → DeclaredAll xs t
     trees-declared none left m xs s r = ok-is (λ xs. DeclaredAll xs t) r tt
     trees-declared (more e es) left zero xs s r = absurd s
     trees-declared (more e es) left (suc m) xs s r =
@@ -129,7 +138,7 @@ module _ (t : Tables) (p : ℕ) (is : List ℤ) (fit : every fits16 is ≡ true)
   mutual
     unfolding tree trees Sound SoundAll proper propers size sizes count counts
 
-    pub tree-proper : (e : Expr) (left : ℕ) (x : Tree) → Sound e t left → tree e t p is ≡ ok x → Proper left (count e) x
+    pub tree-proper : (e : Expr) (left : ℕ) (x : Tree) → Sound Word e t left → tree e t p is ≡ ok x → Proper left (count e) x
     tree-proper (read a fs) left x s r =
         run-by (cellAt t p is a fs) _ r λ c e1 r1.
         ok-is (Proper left 1) r1 (cell-at-inside t p is a fs (s .0) e1, refl)
@@ -141,7 +150,7 @@ module _ (t : Tables) (p : ℕ) (is : List ℤ) (fit : every fits16 is ≡ true)
     tree-proper (literal f) left x s r = ok-is (Proper left 1) r (forms-fit f is s fit, refl)
     tree-proper (named n) left x s r = ok-is (Proper left 1) r (lt-ltb n 4294967296 s, refl)
 
-    pub trees-proper : (es : Exprs) (left m : ℕ) (xs : Trees) → SoundAll es t left m → trees es t p is ≡ ok xs → Propers left m (counts es) xs
+    pub trees-proper : (es : Exprs) (left m : ℕ) (xs : Trees) → SoundAll Word es t left m → trees es t p is ≡ ok xs → Propers left m (counts es) xs
     trees-proper none left zero xs s r = ok-is (Propers left 0 0) r (refl, refl)
     trees-proper none left (suc m) xs s r = absurd s
     trees-proper (more e es) left zero xs s r = absurd s
@@ -164,7 +173,7 @@ module _ (t : Tables) where
     pub small : d .nodes ≤ 8192
     pub each : every (allowedUpdate t) (d .updates) ≡ true
 
-  update-kept : (p : ℕ) (is : List ℤ) (a : ℕ) (fs : List Form) (e : Expr) (d : Done) {d′ : Done} → every fits16 is ≡ true → SoundItem (statement p a fs e) t → Kept d → update t p is a fs e d ≡ ok d′ → Kept d′
+  update-kept : (p : ℕ) (is : List ℤ) (a : ℕ) (fs : List Form) (e : Expr) (d : Done) {d′ : Done} → every fits16 is ≡ true → SoundItem Word (statement p a fs e) t → Kept d → update t p is a fs e d ≡ ok d′ → Kept d′
   unfolding update SoundItem mayWrite allowedUpdate
   update-kept p is a fs e d fit s k r =
       ask-by 19 p (leb (length (d .updates) + 1) 2048) _ r λ h r1.
@@ -201,7 +210,7 @@ module _ (t : Tables) where
   mutual
     unfolding run runs SoundItem SoundItems
 
-    run-kept : (i : Item) (is : List ℤ) (d d′ : Done) → every fits16 is ≡ true → SoundItem i t → Kept d → run i t is d ≡ ok d′ → Kept d′
+    run-kept : (i : Item) (is : List ℤ) (d d′ : Done) → every fits16 is ≡ true → SoundItem Word i t → Kept d → run i t is d ≡ ok d′ → Kept d′
     run-kept (statement p a fs e) is d d′ fit s k r = update-kept p is a fs e d fit s k r
     run-kept (loop p f e step body) is d d′ fit s k r =
         ask-by 15 p (fits16 (valueAt f is) && fits16 (valueAt e is)) _ r λ h r1.
@@ -211,7 +220,7 @@ module _ (t : Tables) where
         (indices-fit 65536 step (valueAt f is) (valueAt e is) (q .0) (q .1)) d k r1
     run-kept (guard p f body) is d d′ fit s k r = guarded (leZ (pos 0) (valueAt f is)) (runs body t is d) d (λ e. runs-kept body is d d′ fit (s .1) k e) k r
 
-    runs-kept : (is : Items) (js : List ℤ) (d d′ : Done) → every fits16 js ≡ true → SoundItems is t → Kept d → runs is t js d ≡ ok d′ → Kept d′
+    runs-kept : (is : Items) (js : List ℤ) (d d′ : Done) → every fits16 js ≡ true → SoundItems Word is t → Kept d → runs is t js d ≡ ok d′ → Kept d′
     runs-kept end js d d′ fit s k r = ok-is Kept r k
     runs-kept (item i rest) js d d′ fit s k r =
         run-by (run i t js d) _ r λ d1 e1 r1.
@@ -351,115 +360,119 @@ module _ (loops : ℕ) (few : loops ≤ 8) where
       (join (leb (length cs) 8) (every fits8 cs) (le-leb (length cs) 8 (omega arith))
       (times-every i8 fits8 (λ s at x next e. read-by (byte s at) _ e λ w _ _ r. got-is (λ z. fits8 z ≡ true) r (fits8-toZ w)) loops s at1 e2)))
 
-module _ (t : Tables) (loops : ℕ) (s : List ℕ) (b : Bytes s) where
+-- what is known of every name that may stand in the bytes
+abbrev Names : (ℕ → Type 0) → List ℕ → Type 0
+Names Name s = (at n next : ℕ) → u32 s at ≡ got n next → Name n
+
+module _ (t : Tables) (loops : ℕ) (s : List ℕ) where
   pub subscripts-length : (a at : ℕ) {fs : List Form} {next : ℕ} → subscripts t loops a s at ≡ got fs next → length fs ≡ length (arrayAt (t .arrays) a .extents)
   unfolding subscripts
   subscripts-length a at e = times-length (form loops) (length (arrayAt (t .arrays) a .extents)) s at e
 
-module _ (t : Tables) (loops : ℕ) (s : List ℕ) (b : Bytes s) (few : loops ≤ 8) where
+module _ (Name : ℕ → Type 0) (t : Tables) (loops : ℕ) (s : List ℕ) (names : Names Name s) (few : loops ≤ 8) where
   subscripts-narrow : (a at : ℕ) {fs : List Form} {next : ℕ} → subscripts t loops a s at ≡ got fs next → every narrow fs ≡ true
   unfolding subscripts
   subscripts-narrow a at e = times-every (form loops) narrow (form-narrow loops few) (length (arrayAt (t .arrays) a .extents)) s at e
 
-  read-sound : (left at : ℕ) (e : Expr) (next : ℕ) → readOf t loops s at ≡ got e next → Sound e t left
+  read-sound : (left at : ℕ) (e : Expr) (next : ℕ) → readOf t loops s at ≡ got e next → Sound Name e t left
   unfolding readOf Sound
   read-sound left at e next r =
       read-by (index (length (t .arrays)) s at) _ r λ a at1 _ r1.
       read-by (subscripts t loops a s at1) _ r1 λ fs at2 e2 r2.
-      got-is (λ e. Sound e t left) r2 (subscripts-length t loops s b a at1 e2, subscripts-narrow a at1 e2)
+      got-is (λ e. Sound Name e t left) r2 (subscripts-length t loops s a at1 e2, subscripts-narrow a at1 e2)
 
-  literal-sound : (left at : ℕ) (e : Expr) (next : ℕ) → literalOf t loops s at ≡ got e next → Sound e t left
+  literal-sound : (left at : ℕ) (e : Expr) (next : ℕ) → literalOf t loops s at ≡ got e next → Sound Name e t left
   unfolding literalOf Sound
-  literal-sound left at e next r = read-by (form loops s at) _ r λ f at1 e1 r1. got-is (λ e. Sound e t left) r1 (form-narrow loops few s at f at1 e1)
+  literal-sound left at e next r = read-by (form loops s at) _ r λ f at1 e1 r1. got-is (λ e. Sound Name e t left) r1 (form-narrow loops few s at f at1 e1)
 
-  constant-sound : (left at : ℕ) (e : Expr) (next : ℕ) → constantOf t loops s at ≡ got e next → Sound e t left
+  constant-sound : (left at : ℕ) (e : Expr) (next : ℕ) → constantOf t loops s at ≡ got e next → Sound Name e t left
   unfolding constantOf Sound
-  constant-sound left at e next r = read-by (u32 s at) _ r λ n at1 e1 r1. got-is (λ e. Sound e t left) r1 (u32-below s at b e1)
+  constant-sound left at e next r = read-by (u32 s at) _ r λ n at1 e1 r1. got-is (λ e. Sound Name e t left) r1 (names at n at1 e1)
 
-  arguments-sound : (left : ℕ) (one : Reader Expr) → ((at : ℕ) (e : Expr) (next : ℕ) → one s at ≡ got e next → Sound e t left)
-      → (n at : ℕ) (es : Exprs) (next : ℕ) → times none more one n s at ≡ got es next → SoundAll es t left n
+  arguments-sound : (left : ℕ) (one : Reader Expr) → ((at : ℕ) (e : Expr) (next : ℕ) → one s at ≡ got e next → Sound Name e t left)
+      → (n at : ℕ) (es : Exprs) (next : ℕ) → times none more one n s at ≡ got es next → SoundAll Name es t left n
   unfolding times SoundAll
-  arguments-sound left one h zero at es next r = got-is (λ es. SoundAll es t left 0) {n = at} r tt
+  arguments-sound left one h zero at es next r = got-is (λ es. SoundAll Name es t left 0) {n = at} r tt
   arguments-sound left one h (suc n) at es next r =
       read-by (one s at) _ r λ e at1 e1 r1.
       read-by (times none more one n s at1) _ r1 λ fs at2 e2 r2.
-      got-is (λ es. SoundAll es t left (suc n)) r2 (h at e at1 e1, arguments-sound left one h n at1 fs at2 e2)
+      got-is (λ es. SoundAll Name es t left (suc n)) r2 (h at e at1 e1, arguments-sound left one h n at1 fs at2 e2)
 
-  apply-sound : (left : ℕ) (one : Reader Expr) → ((at : ℕ) (e : Expr) (next : ℕ) → one s at ≡ got e next → Sound e t left)
-      → (at : ℕ) (e : Expr) (next : ℕ) → applyOf t loops one s at ≡ got e next → Sound e t (suc left)
+  apply-sound : (left : ℕ) (one : Reader Expr) → ((at : ℕ) (e : Expr) (next : ℕ) → one s at ≡ got e next → Sound Name e t left)
+      → (at : ℕ) (e : Expr) (next : ℕ) → applyOf t loops one s at ≡ got e next → Sound Name e t (suc left)
   unfolding applyOf Sound
   apply-sound left one h at e next r =
       read-by (index (length (t .arities)) s at) _ r λ o at1 e1 r1.
       read-by (times none more one (getD (t .arities) o 0) s at1) _ r1 λ es at2 e2 r2.
-      got-is (λ e. Sound e t (suc left)) r2 (index-below (length (t .arities)) s at e1, arguments-sound left one h (getD (t .arities) o 0) at1 es at2 e2)
+      got-is (λ e. Sound Name e t (suc left)) r2 (index-below (length (t .arities)) s at e1, arguments-sound left one h (getD (t .arities) o 0) at1 es at2 e2)
 
-  pub node-sound : (left : ℕ) (operates : ℕ → Reader Expr) → ((p at : ℕ) (e : Expr) (next : ℕ) → operates p s at ≡ got e next → Sound e t left)
-      → (at : ℕ) (e : Expr) (next : ℕ) → node t loops operates s at ≡ got e next → Sound e t left
+  pub node-sound : (left : ℕ) (operates : ℕ → Reader Expr) → ((p at : ℕ) (e : Expr) (next : ℕ) → operates p s at ≡ got e next → Sound Name e t left)
+      → (at : ℕ) (e : Expr) (next : ℕ) → node t loops operates s at ≡ got e next → Sound Name e t left
   unfolding node
   node-sound left operates h at e next r =
       read-by (byte s at) _ r λ code at1 _ r1. go code at1 (eqb code 16) (eqb code 17) (eqb code 18) (eqb code 19) r1
     where
       go : (code at1 : ℕ) (p q v w : Bool)
-          → (if p then readOf t loops else if q then operates at else if v then literalOf t loops else if w then constantOf t loops else refuse 9 at) s at1 ≡ got e next → Sound e t left
+          → (if p then readOf t loops else if q then operates at else if v then literalOf t loops else if w then constantOf t loops else refuse 9 at) s at1 ≡ got e next → Sound Name e t left
       go code at1 true q v w r1 = read-sound left at1 e next r1
       go code at1 false true v w r1 = h at at1 e next r1
       go code at1 false false true w r1 = literal-sound left at1 e next r1
       go code at1 false false false true r1 = constant-sound left at1 e next r1
       go code at1 false false false false r1 = absurd (let z : _≡_ {A = ℕ} 0 1 = cc in omega arith)
 
-  pub applied-sound : (left : ℕ) (p at : ℕ) (e : Expr) (next : ℕ) → applied t loops left p s at ≡ got e next → Sound e t left
+  pub applied-sound : (left : ℕ) (p at : ℕ) (e : Expr) (next : ℕ) → applied t loops left p s at ≡ got e next → Sound Name e t left
   unfolding applied
   applied-sound zero p at e next r = absurd (let z : _≡_ {A = ℕ} 0 1 = cc in omega arith)
   applied-sound (suc left) p at e next r =
       apply-sound left (node t loops (applied t loops left)) (λ at e next r. node-sound left (applied t loops left) (λ p at e next r. applied-sound left p at e next r) at e next r) at e next r
 
-  pub statement-sound : (p at : ℕ) (i : Item) (next : ℕ) → statementOf t loops p s at ≡ got i next → SoundItem i t
+  pub statement-sound : (p at : ℕ) (i : Item) (next : ℕ) → statementOf t loops p s at ≡ got i next → SoundItem Name i t
   unfolding statementOf expression SoundItem
   statement-sound p at i next r =
       read-by (index (length (t .arrays)) s at) _ r λ a at1 _ r1.
       asked-by 13 at (not (eqb (arrayAt (t .arrays) a .role) 0)) s at1 _ r1 λ h r2.
       read-by (subscripts t loops a s at1) _ r2 λ fs at2 e3 r3.
       read-by (node t loops (applied t loops 12) s at2) _ r3 λ e at3 e4 r4.
-      got-is (λ i. SoundItem i t) r4 (subscripts-length t loops s b a at1 e3, subscripts-narrow a at1 e3, h, node-sound 12 (applied t loops 12) (applied-sound 12) at2 e at3 e4)
+      got-is (λ i. SoundItem Name i t) r4 (subscripts-length t loops s a at1 e3, subscripts-narrow a at1 e3, h, node-sound 12 (applied t loops 12) (applied-sound 12) at2 e at3 e4)
 
-module _ (t : Tables) (s : List ℕ) (b : Bytes s) where
+module _ (Name : ℕ → Type 0) (t : Tables) (s : List ℕ) (names : Names Name s) where
   abbrev Reads : (ℕ → ℕ → Reader Item) → Type 0
-  Reads one = (code p at : ℕ) (i : Item) (next : ℕ) → one code p s at ≡ got i next → SoundItem i t
+  Reads one = (code p at : ℕ) (i : Item) (next : ℕ) → one code p s at ≡ got i next → SoundItem Name i t
 
-  items-sound : (one : ℕ → ℕ → Reader Item) → Reads one → (k at : ℕ) (is : Items) (next : ℕ) → items one k s at ≡ got is next → SoundItems is t
+  items-sound : (one : ℕ → ℕ → Reader Item) → Reads one → (k at : ℕ) (is : Items) (next : ℕ) → items one k s at ≡ got is next → SoundItems Name is t
   unfolding items SoundItems
   items-sound one h zero at is next r = absurd (let z : _≡_ {A = ℕ} 0 1 = cc in omega arith)
   items-sound one h (suc k) at is next r =
       read-by (byte s at) _ r λ code at1 _ r1.
-      choose-by (eqb code 0) (give end) _ s at1 r1 (λ _ r2. got-is (λ is. SoundItems is t) {n = at1} r2 tt) λ _ r2.
+      choose-by (eqb code 0) (give end) _ s at1 r1 (λ _ r2. got-is (λ is. SoundItems Name is t) {n = at1} r2 tt) λ _ r2.
       read-by (one code at s at1) _ r2 λ i at2 e3 r3.
       read-by (items one k s at2) _ r3 λ js at3 e4 r4.
-      got-is (λ is. SoundItems is t) r4 (h code at at1 i at2 e3, items-sound one h k at2 js at3 e4)
+      got-is (λ is. SoundItems Name is t) r4 (h code at at1 i at2 e3, items-sound one h k at2 js at3 e4)
 
   item-sound : (inner : ℕ → ℕ → Reader Item) (most loops : ℕ) → loops ≤ 8 → Reads inner → Reads (itemOf t most inner loops)
   unfolding itemOf
   item-sound inner most loops few h code p at i next r =
-      choose-by (eqb code 1) (statementOf t loops p) _ s at r (λ _ r1. statement-sound t loops s b few p at i next r1) λ _ r1.
+      choose-by (eqb code 1) (statementOf t loops p) _ s at r (λ _ r1. statement-sound Name t loops s names few p at i next r1) λ _ r1.
       choose-by (eqb code 2 || eqb code 3) (inner code p) (refuse 9 p) s at r1 (λ _ r2. h code p at i next r2) λ _ r2.
       absurd (let z : _≡_ {A = ℕ} 0 1 = cc in omega arith)
 
-  loop-sound : (loops : ℕ) → loops ≤ 8 → (inner : Reader Items) → ((at : ℕ) (is : Items) (next : ℕ) → inner s at ≡ got is next → SoundItems is t)
-      → (p at : ℕ) (i : Item) (next : ℕ) → loopOf loops inner p s at ≡ got i next → SoundItem i t
+  loop-sound : (loops : ℕ) → loops ≤ 8 → (inner : Reader Items) → ((at : ℕ) (is : Items) (next : ℕ) → inner s at ≡ got is next → SoundItems Name is t)
+      → (p at : ℕ) (i : Item) (next : ℕ) → loopOf loops inner p s at ≡ got i next → SoundItem Name i t
   unfolding loopOf SoundItem
   loop-sound loops few inner h p at i next r =
       read-by (form loops s at) _ r λ f at1 e1 r1.
       read-by (form loops s at1) _ r1 λ g at2 e2 r2.
       read-by (step s at2) _ r2 λ z at3 _ r3.
       read-by (inner s at3) _ r3 λ is at4 e4 r4.
-      got-is (λ i. SoundItem i t) r4 (form-narrow loops few s at f at1 e1, form-narrow loops few s at1 g at2 e2, h at3 is at4 e4)
+      got-is (λ i. SoundItem Name i t) r4 (form-narrow loops few s at f at1 e1, form-narrow loops few s at1 g at2 e2, h at3 is at4 e4)
 
-  guard-sound : (loops : ℕ) → loops ≤ 8 → (inner : Reader Items) → ((at : ℕ) (is : Items) (next : ℕ) → inner s at ≡ got is next → SoundItems is t)
-      → (p at : ℕ) (i : Item) (next : ℕ) → guardOf loops inner p s at ≡ got i next → SoundItem i t
+  guard-sound : (loops : ℕ) → loops ≤ 8 → (inner : Reader Items) → ((at : ℕ) (is : Items) (next : ℕ) → inner s at ≡ got is next → SoundItems Name is t)
+      → (p at : ℕ) (i : Item) (next : ℕ) → guardOf loops inner p s at ≡ got i next → SoundItem Name i t
   unfolding guardOf SoundItem
   guard-sound loops few inner h p at i next r =
       read-by (form loops s at) _ r λ f at1 e1 r1.
       read-by (inner s at1) _ r1 λ is at2 e2 r2.
-      got-is (λ i. SoundItem i t) r2 (form-narrow loops few s at f at1 e1, h at1 is at2 e2)
+      got-is (λ i. SoundItem Name i t) r2 (form-narrow loops few s at f at1 e1, h at1 is at2 e2)
 
   nested-sound : (most left loops : ℕ) → loops + left ≤ 8 → Reads (nested t most left loops)
   unfolding nested
@@ -472,22 +485,22 @@ module _ (t : Tables) (s : List ℕ) (b : Bytes s) where
       (λ at is next e. items-sound (itemOf t most (nested t most left loops) loops) (item-sound (nested t most left loops) most loops (omega arith) (λ code p at i next e. nested-sound most left loops (omega arith) code p at i next e)) most at is next e) p at i next r1)
 
 -- a whole program
-pub record SoundProgram (p : Program) : Type 0 where
+pub record SoundProgram (Name : ℕ → Type 0) (p : Program) : Type 0 where
   pub tables-parts : TablesParts (p .tables)
-  pub items-parts : SoundItems (p .items) (p .tables)
+  pub items-parts : SoundItems Name (p .items) (p .tables)
 
-pub program-sound : (s : List ℕ) → Bytes s → (p : Program) (next : ℕ) → readProgram s ≡ got p next → SoundProgram p
+pub program-sound : (Name : ℕ → Type 0) (s : List ℕ) → Names Name s → (p : Program) (next : ℕ) → readProgram s ≡ got p next → SoundProgram Name p
 unfolding readProgram program body
-program-sound s b p next e = go (leb (length s) 16384) e
+program-sound Name s names p next e = go (leb (length s) 16384) e
   where
-    go : (z : Bool) → _≡_ {A = Outcome Program} (if z then program s 0 else no 2 0) (got p next) → SoundProgram p
+    go : (z : Bool) → _≡_ {A = Outcome Program} (if z then program s 0 else no 2 0) (got p next) → SoundProgram Name p
     go true r =
         read-by (tables s 0) _ r λ t at1 e1 r1.
         read-by (body t (length s) 8 0 s at1) _ r1 λ is at2 e2 r2.
         asked-by 14 at2 (eqb at2 (length s)) s at2 _ r2 λ _ r3.
-        got-is SoundProgram r3 (record {
+        got-is (SoundProgram Name) r3 (record {
           tables-parts = tables-allowed s 0 e1;
-          items-parts = items-sound t s b (itemOf t (length s) (nested t (length s) 8 0) 0) (item-sound t s b (nested t (length s) 8 0) (length s) 0 (omega arith) (nested-sound t s b (length s) 8 0 (omega arith))) (length s) at1 is at2 e2;
+          items-parts = items-sound Name t s names (itemOf t (length s) (nested t (length s) 8 0) 0) (item-sound Name t s names (nested t (length s) 8 0) (length s) 0 (omega arith) (nested-sound Name t s names (length s) 8 0 (omega arith))) (length s) at1 is at2 e2;
         })
     go false r = absurd (let z : _≡_ {A = ℕ} 0 1 = cc in omega arith)
 
@@ -497,7 +510,7 @@ unrolled-allowed bytes l b e = go (unrolls bytes l e)
   where
     go : Unrolls bytes l → allowed l ≡ true
     go u =
-        let p = program-sound bytes b (u .source) (u .next) (u .isRead) in
+        let p = program-sound Word bytes (λ at n next r. u32-below bytes at b r) (u .source) (u .next) (u .isRead) in
         let k = runs-kept (u .source .tables) (u .source .items) [] nothing (u .done) refl (p .items-parts) (record { few = omega arith; counted = refl; small = omega arith; each = refl }) (u .ran) in
         let reads = unrolled-reads bytes l e in
         list-whole l (record {

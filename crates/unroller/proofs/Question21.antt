@@ -1,5 +1,5 @@
 -- Question 21 was never answered with a "no": the run that asks it has the outcome of the run that does not.
-use Prim.Native.Nat.{ℕ, zero, suc, _+_, _*_, _<_}
+use Prim.Native.Nat.{ℕ, zero, suc, _+_, _*_}
 use mathlib.Core.Path.{_≡_, refl, ap, ap₂, _∙_}
 use mathlib.Core.List.{List, [], _∷_, _++_}
 use mathlib.Core.Bool.{Bool, true, false, _&&_}
@@ -25,7 +25,7 @@ use Rattle.unroller.specs.Asking as Asking
 use Rattle.unroller.specs.Fits.{narrow}
 use Rattle.unroller.proofs.Parts.{both}
 use Rattle.unroller.proofs.Fits.{indices-fit, forms-fit}
-use Rattle.unroller.proofs.Accepted.{Sound, SoundAll, SoundItem, SoundItems, every-snoc, program-sound}
+use Rattle.unroller.proofs.Accepted.{Any, Sound, SoundAll, SoundItem, SoundItems, every-snoc, program-sound}
 
 -- what goes on alike
 after : {A B : Type 0} (m : Ran A) (f g : A → Ran B) → ((a : A) → f a ≡ g a) → (m >>= f) ≡ (m >>= g)
@@ -55,20 +55,20 @@ module _ (p : ℕ) (is : List ℤ) (fit : every fits16 is ≡ true) where
     mutual
       unfolding Asking.tree Asking.trees tree trees Sound SoundAll
 
-      tree-same : (e : Expr) (left : ℕ) → Sound e t left → Asking.tree e t p is ≡ tree e t p is
+      tree-same : (e : Expr) (left : ℕ) → Sound Any e t left → Asking.tree e t p is ≡ tree e t p is
       tree-same (read a fs) left s = ap (λ (m : Ran ℕ). m >>= λ c. ok (cell a c)) (cell-same a fs (s .1))
       tree-same (apply o es) zero s = absurd s
       tree-same (apply o es) (suc left) s = ap (λ (m : Ran Trees). m >>= λ ts. ok (operator o ts)) (trees-same es left (getD (t .arities) o 0) (s .1))
       tree-same (literal f) left s = ap (λ (m : Ran ℤ). m >>= λ v. ok (number v)) (worked-is f s)
       tree-same (named n) left s = refl
 
-      trees-same : (es : Exprs) (left n : ℕ) → SoundAll es t left n → Asking.trees es t p is ≡ trees es t p is
+      trees-same : (es : Exprs) (left n : ℕ) → SoundAll Any es t left n → Asking.trees es t p is ≡ trees es t p is
       trees-same none left n s = refl
       trees-same (more e es) left zero s = absurd s
       trees-same (more e es) left (suc n) s =
           ap₂ (λ (m : Ran Tree) (n : Ran Trees). m >>= λ x. n >>= λ xs. ok (cons x xs)) (tree-same e left (s .0)) (trees-same es left n (s .1))
 
-    update-same : (a : ℕ) (fs : List Form) (e : Expr) (d : Done) → SoundItem (statement p a fs e) t → Asking.update t p is a fs e d ≡ update t p is a fs e d
+    update-same : (a : ℕ) (fs : List Form) (e : Expr) (d : Done) → SoundItem Any (statement p a fs e) t → Asking.update t p is a fs e d ≡ update t p is a fs e d
     unfolding Asking.update update SoundItem
     update-same a fs e d s =
         ap₂ (λ (m : Ran ℕ) (n : Ran Tree). ask 19 p (leb (length (d .updates) + 1) 2048) >>= λ _. ask 20 p (leb (d .nodes + count e) 8192) >>= λ _. m >>= λ c. n >>= λ x.
@@ -99,7 +99,7 @@ module _ (t : Tables) where
   mutual
     unfolding Asking.run Asking.runs run runs SoundItem SoundItems
 
-    run-same : (i : Item) (is : List ℤ) (d : Done) → every fits16 is ≡ true → SoundItem i t → Asking.run i t is d ≡ run i t is d
+    run-same : (i : Item) (is : List ℤ) (d : Done) → every fits16 is ≡ true → SoundItem Any i t → Asking.run i t is d ≡ run i t is d
     run-same (statement p a fs e) is d fit s = update-same p is fit t a fs e d s
     run-same (loop p f e step body) is d fit s =
         ap₂ (λ (m n : Ran ℤ). m >>= λ first. n >>= λ last. ask 15 p (fits16 first && fits16 last) >>= λ _. rounds (indices 65536 step last first) p (λ i d. Asking.runs body t (is ++ (i ∷ [])) d) d)
@@ -110,21 +110,21 @@ module _ (t : Tables) where
         ap₂ (λ (m : Ran ℤ) (r : Ran Done). m >>= λ v. elim (leZ (pos 0) v) as (λ b. Ran Done) [ true ↦ r | false ↦ ok d ])
         (worked-is p is fit f (s .0)) (runs-same body is d fit (s .1))
 
-    runs-same : (js : Items) (is : List ℤ) (d : Done) → every fits16 is ≡ true → SoundItems js t → Asking.runs js t is d ≡ runs js t is d
+    runs-same : (js : Items) (is : List ℤ) (d : Done) → every fits16 is ≡ true → SoundItems Any js t → Asking.runs js t is d ≡ runs js t is d
     runs-same end is d fit s = refl
     runs-same (item i rest) is d fit s =
         ap (λ (m : Ran Done). m >>= Asking.runs rest t is) (run-same i is d fit (s .0))
         ∙ after (run i t is d) (Asking.runs rest t is) (runs rest t is) (λ d. runs-same rest is d fit (s .1))
 
-pub run-question21 : (bytes : List ℕ) (p : Program) (next : ℕ) → ((i : ℕ) → getD bytes i 0 < 256) → readProgram bytes ≡ got p next → Asking.runProgram p ≡ runProgram p
+pub run-question21 : (bytes : List ℕ) (p : Program) (next : ℕ) → readProgram bytes ≡ got p next → Asking.runProgram p ≡ runProgram p
 unfolding Asking.runProgram runProgram
-run-question21 bytes p next b e = runs-same (p .tables) (p .items) [] nothing refl (program-sound bytes b p next e .items-parts)
+run-question21 bytes p next e = runs-same (p .tables) (p .items) [] nothing refl (program-sound Any bytes (λ _ _ _ _. tt) p next e .items-parts)
 
 -- so every file unrolls to the same list or has the same refusal
-pub unrolled-question21 : (bytes : List ℕ) → ((i : ℕ) → getD bytes i 0 < 256) → Asking.unrolled bytes ≡ unrolled bytes
+pub unrolled-question21 : (bytes : List ℕ) → Asking.unrolled bytes ≡ unrolled bytes
 unfolding Asking.unrolled unrolled
-unrolled-question21 bytes b = go (readProgram bytes) refl
+unrolled-question21 bytes = go (readProgram bytes) refl
   where
     go : (o : Outcome Program) → readProgram bytes ≡ o → Asking.unrolledBy o ≡ unrolledBy o
-    go (got p next) e = ap (listedBy (p .tables)) (run-question21 bytes p next b e)
+    go (got p next) e = ap (listedBy (p .tables)) (run-question21 bytes p next e)
     go (no question place) e = refl

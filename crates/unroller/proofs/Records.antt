@@ -193,7 +193,7 @@ module _ (s : List ℕ) (at : ℕ) (t : Tables) (loops : ℕ) (is : List ℤ) (l
         go p fs next d e2 a (ok n) f h =
             let ps = tables-parts t a in
             let few = within-high 1 16 (length (t .arrays)) (ps .count) in
-            let i = cell-at-inside t p (take loops is) b fs (subscripts-length t loops s bytes b at1 e2) f in
+            let i = cell-at-inside t p (take loops is) b fs (subscripts-length t loops s b at1 e2) f in
             let k = spot-below t b n ps i in
             let z = h .0 in
             (h .1, refl, w ∙ ap₂ (λ (x y : ℕ). sets list to (16 ∷ x ∷ y ∷ [])) (u (omega arith)) (v (omega arith) ∙ h .0))

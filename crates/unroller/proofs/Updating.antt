@@ -45,7 +45,7 @@ use Rattle.unroller.specs.declared.statement.Target.the-variants as targ
 use Rattle.unroller.proofs.Parts.{within-high, tables-parts, nodes-snoc}
 use Rattle.unroller.proofs.Laws.{words-long, layout-snoc}
 use Rattle.unroller.proofs.Runs.{run-by, ok-is}
-use Rattle.unroller.proofs.Accepted.{Bytes, Sound, cell-at-inside, subscripts-length, node-sound, applied-sound, index-below, tree-declared}
+use Rattle.unroller.proofs.Accepted.{Any, Bytes, Sound, cell-at-inside, subscripts-length, node-sound, applied-sound, index-below, tree-declared}
 use Rattle.unroller.proofs.Records.{tree-size, words-count, spot-below}
 use Rattle.unroller.proofs.Scan.{scan-whole, fine-readable, spot-is, may-is, marked-more}
 
@@ -185,7 +185,7 @@ module _ (s : List ℕ) (a at : ℕ) (t : Tables) (loops : ℕ) (is : List ℤ) 
         go : (k : Ran ℕ) → cellAt t p (take loops is) a fs ≡ k → CellIs k source (cell.Is c n) →
             UpdateIs list to next (k >>= λ c. tree e t p (take loops is) >>= λ x. ok (record { array = a; target = c; source = x })) (outOf c r) list′
         go (ok c1) f h =
-            let i = cell-at-inside t p (take loops is) a fs (subscripts-length t loops s b a at (st .target)) f in
+            let i = cell-at-inside t p (take loops is) a fs (subscripts-length t loops s a at (st .target)) f in
             let small = spot-below t a c1 (tables-parts t al) i in
             let same = h .0 in
             let j : list1 ≡ sets list to (1 ∷ a ∷ c1 ∷ []) = w ∙ ap₂ (λ (x y : ℕ). sets list to (1 ∷ x ∷ y ∷ [])) (u few) (v (omega arith) ∙ same) in
@@ -202,9 +202,9 @@ module _ (s : List ℕ) (a at : ℕ) (t : Tables) (loops : ℕ) (is : List ℤ) 
 drop-run : (l : List ℕ) (i : ℕ) (vs : List ℕ) → i + length vs ≤ length l → drop i (sets l i vs) ≡ vs ++ drop (i + length vs) l
 drop-run l i vs h = ap (drop i) (sets-eq vs l i h ∙ append-assoc (take i l) vs (drop (i + length vs) l)) ∙ drop-at (take i l) (vs ++ drop (i + length vs) l) i (let e = length-take i l in omega arith)
 
-expression-sound : (t : Tables) (loops : ℕ) (s : List ℕ) → Bytes s → loops ≤ 8 → (at : ℕ) (e : Expr) (next : ℕ) → expression t loops s at ≡ got e next → Sound e t 12
+expression-sound : (t : Tables) (loops : ℕ) (s : List ℕ) → loops ≤ 8 → (at : ℕ) (e : Expr) (next : ℕ) → expression t loops s at ≡ got e next → Sound Any e t 12
 unfolding expression
-expression-sound t loops s b few at e next g = node-sound t loops s b few 12 (applied t loops 12) (λ p at e next r. applied-sound t loops s b few 12 p at e next r) at e next g
+expression-sound t loops s few at e next g = node-sound Any t loops s (λ _ _ _ _. tt) few 12 (applied t loops 12) (λ p at e next r. applied-sound Any t loops s (λ _ _ _ _. tt) few 12 p at e next r) at e next g
 
 -- behind questions 19 and 20
 module _ (s : List ℕ) (p a at : ℕ) (t : Tables) (bases : List ℕ) (loops : ℕ) (is : List ℤ) (progress : Progress) (list flags : List ℕ) (to : ℕ)
@@ -267,8 +267,8 @@ module _ (s : List ℕ) (p a at : ℕ) (t : Tables) (bases : List ℕ) (loops : 
         (c1 : ℕ) (x1 : Tree) → cellAt t p (take loops is) a fs ≡ ok c1 → tree e t p (take loops is) ≡ ok x1 → UpdateIs list to next (ok (made c1 x1)) (target.Is c past end) list1 → Known e next d (made c1 x1)
     known fs source e next d st q bs h c1 x1 f1 f2 y =
         let parts = tables-parts t (h .tables-allowed) in
-        let i = cell-at-inside t p (take loops is) a fs (subscripts-length t loops s b a at (st .target)) f1 in
-        let pr = tree-declared t p (take loops is) e 12 x1 (expression-sound t loops s b (st .few-loops) source e next (st .behind)) f2 in
+        let i = cell-at-inside t p (take loops is) a fs (subscripts-length t loops s a at (st .target)) f1 in
+        let pr = tree-declared Any t p (take loops is) e 12 x1 (expression-sound t loops s (st .few-loops) source e next (st .behind)) f2 in
         let sz = tree-size t p (take loops is) e x1 f2 in
         let len = words-count t p (take loops is) e x1 f2 in
         let hu = h .updates in
