@@ -21,7 +21,7 @@ use Rattle.unroller.specs.Words.{Out, got, none, Reader, andThen, give, 
 use Rattle.unroller.specs.Allowed.{localsLast, allowedArray, proper, propers, mayWrite, allowedUpdate, readAll, allowed}
 use Rattle.unroller.specs.Layout.{padded, arrayWords, arraysWords, tableWords, treeWords, treesWords, updateWords, updatesWords, words, layout}
 use Rattle.unroller.specs.Decode.{between, arities, extents, array, arrays, tables, mayRead, applied, node, operates, expr, update, updates, list, decode}
-use Rattle.unroller.proofs.Parts.{both, join, within-high, ArrayParts, array-parts, room, TablesParts, ListParts, list-parts, fits32-signed, nodes-snoc}
+use Rattle.unroller.proofs.Parts.{both, join, within-high, ArrayParts, array-parts, room, TablesParts, ListParts, list-parts, signed-fits, nodes-snoc}
 
 zeros-in : (n : ℕ) (rest : List ℕ) → zeros n (replicate n 0 ++ rest) ≡ got 0 rest
 unfolding zeros
@@ -103,7 +103,7 @@ module _ (t : Tables) (before : List Update) where
         → expr (t .arities) (mayRead (t .arrays) before) left (treeWords x ++ rest) ≡ got x rest
     tree-in (cell a c) left rest p r = rw (p, r)
     tree-in (number z) left rest p r =
-        let f = fits32-signed z p in
+        let f = signed-fits w32 2147483647 refl z p in
         let b = fits-ofZ {w = w32} {z = z} f in
         rw (lt-ltb (ofZ w32 z) 4294967296 (b .fits), toZ-ofZ {w = w32} {z = z} f)
     tree-in (constant n) left rest p r = rw p

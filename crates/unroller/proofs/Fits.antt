@@ -12,12 +12,12 @@ use borrow.Author.Tests.{leb-true, le-leb, ltb-true, ltb-false}
 use mir.Syntax.{w8, w16}
 use mir.Val.{toZ, sel}
 use Rattle.model.specs.Test.{every}
-use Rattle.model.proofs.Abs.{sub-pos, sub-neg, abs-add, abs-mul-le}
+use Rattle.model.proofs.Abs.{sub-pos, sub-neg, abs-add, abs-mul-le, mag-abs}
 use Rattle.reader.specs.Syntax.{Form}
 use Rattle.unroller.specs.Run.{products, valueAt, signed, fits16, indices}
 use Rattle.unroller.specs.Allowed.{fits32}
 use Rattle.unroller.specs.Fits.{fits8, narrow}
-use Rattle.unroller.proofs.Parts.{both, join}
+use Rattle.unroller.proofs.Parts.{both, join, signed-mag, mag-signed}
 
 -- ---- index values
 le-trans : (a b c : ℤ) → leZ a b ≡ true → leZ b c ≡ true → leZ a c ≡ true
@@ -74,12 +74,11 @@ indices-fit most (negsuc n) first last f l = falling most n last first (both (le
 
 -- ---- sizes
 signed-abs : (m : ℕ) (z : ℤ) → signed m z ≡ true → natAbs z ≤ suc m
-signed-abs m (pos n) e = let h = leb-true n m e in omega arith
-signed-abs m (negsuc n) e = let h = leb-true n m (both (leb n m) true e .0) in omega arith
+signed-abs m (pos n) e = let h = signed-mag m (pos n) e in omega arith
+signed-abs m (negsuc n) e = let h = signed-mag m (negsuc n) e in omega arith
 
 pub abs-signed : (m : ℕ) (z : ℤ) → natAbs z ≤ m → signed m z ≡ true
-abs-signed m (pos n) h = le-leb n m h
-abs-signed m (negsuc n) h = join (leb n m) true (le-leb n m (omega arith)) refl
+abs-signed m z h = mag-signed m z (let k = mag-abs z in omega arith)
 
 -- n products of coefficients up to c and index values up to m
 products-bounded : (n c m : ℕ) (cs is : List ℤ) → length cs ≤ n → every (signed c) cs ≡ true → every (signed m) is ≡ true → natAbs (products cs is) ≤ n * (suc c * suc m)
@@ -108,8 +107,8 @@ signed-bits : (h n : ℕ) → signed h (sel (ltb n (suc h)) (pos n) (negsuc (suc
 signed-bits h n = go (ltb n (suc h)) refl
   where
     go : (b : Bool) → ltb n (suc h) ≡ b → signed h (sel b (pos n) (negsuc (suc h + suc h - suc n))) ≡ true
-    go true e = le-leb n h (let k = ltb-true n (suc h) e in omega arith)
-    go false e = join (leb (suc h + suc h - suc n) h) true (le-leb (suc h + suc h - suc n) h (let k = ltb-false n (suc h) e in omega arith)) refl
+    go true e = mag-signed h (pos n) (let k = ltb-true n (suc h) e in omega arith)
+    go false e = mag-signed h (negsuc (suc h + suc h - suc n)) (let k = ltb-false n (suc h) e in omega arith)
 
 pub fits16-toZ : (n : ℕ) → fits16 (toZ w16 n) ≡ true
 fits16-toZ n = signed-bits 32767 n

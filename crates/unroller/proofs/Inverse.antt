@@ -21,7 +21,7 @@ use Rattle.unroller.specs.Words.{Out, got, none, Reader, andThen, give, 
 use Rattle.unroller.specs.Allowed.{localsLast, allowedArray, proper, propers, mayWrite, allowedUpdate, readAll, allowed}
 use Rattle.unroller.specs.Layout.{padded, arrayWords, arraysWords, tableWords, treeWords, treesWords, updateWords, updatesWords, words, layout}
 use Rattle.unroller.specs.Decode.{between, arities, extents, array, arrays, tables, mayRead, applied, node, operates, expr, update, updates, list, listOf, decode}
-use Rattle.unroller.proofs.Parts.{both, join, ArrayParts, array-whole, room, TablesParts, ListParts, list-whole, signed-fits32, nodes-snoc}
+use Rattle.unroller.proofs.Parts.{both, join, ArrayParts, array-whole, room, TablesParts, ListParts, list-whole, fits-signed, nodes-snoc}
 use Rattle.unroller.proofs.Encode.{arrays-length, decode-layout}
 
 bind-out : {A B : Type 0} (m : Out A) (f : A → Reader B) {b : B} {rest : List ℕ} → andThen m f ≡ got b rest → (a : A) × (v : List ℕ) × (m ≡ got a v) × (f a v ≡ got b rest)
@@ -208,7 +208,7 @@ module _ (t : Tables) (before : List Update) where
             let m = both (ltb x 4294967296) (eqb y 0) (q .0) in
             let j = eqb-true y 0 (m .1) in
             let b : Bits w32 x = record { fits = ltb-true x 4294967296 (m .0) } in
-            carry (TreeAt left (code ∷ x ∷ y ∷ v)) r1 (rw (k, j, q .1, ofZ-toZ {w = w32} {n = x} b), signed-fits32 (toZ w32 x) (sfits-toZ {w = w32} {n = x} b), refl)
+            carry (TreeAt left (code ∷ x ∷ y ∷ v)) r1 (rw (k, j, q .1, ofZ-toZ {w = w32} {n = x} b), fits-signed w32 2147483647 refl (toZ w32 x) (sfits-toZ {w = w32} {n = x} b), refl)
         by false false false true ea eb ec ed e = bind-by (ask (ltb x 4294967296 && eqb y 0) v) _ e λ z v1 e1 r1.
             let q = ask-out (ltb x 4294967296 && eqb y 0) v e1 in
             let k = eqb-true code 19 ed in

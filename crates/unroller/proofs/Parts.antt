@@ -1,5 +1,5 @@
 -- The parts of question 26, one by one, and put together again.
-use Prim.Native.Nat.{ℕ, zero, suc, _+_, _≤_, _<_}
+use Prim.Native.Nat.{ℕ, zero, suc, _+_, _^_, _≤_, _<_}
 use native.Mathlib.Omega.{arith}
 use mathlib.Core.Path.{_≡_, refl}
 use mathlib.Core.List.{List, [], _∷_, _++_}
@@ -7,13 +7,15 @@ use mathlib.Core.Bool.{Bool, true, false, _&&_, and-eq-true-iff, and-true}
 use lib.ListN.{length, getD}
 use lib.Dec.{leb}
 use lib.IntN.{ℤ, pos, negsuc}
+use lib.Signed.{mag}
 use borrow.Author.Tests.{leb-true, le-leb}
-use mir.Syntax.{w32}
-use mir.Val.{SFits}
+use mir.Syntax.{Width}
+use mir.Val.{SFits, hbits}
 use Rattle.model.specs.Test.{within, every, total}
 use Rattle.model.specs.Tables.{Array, Tables, cells}
 use Rattle.model.specs.Update.{Update, Listed, size, nodes}
-use Rattle.unroller.specs.Allowed.{localsLast, allowedArray, allowedTables, fits32, allowedUpdate, readAll, allowed}
+use Rattle.unroller.specs.Run.{signed}
+use Rattle.unroller.specs.Allowed.{localsLast, allowedArray, allowedTables, allowedUpdate, readAll, allowed}
 
 pub both : (a b : Bool) → (a && b) ≡ true → (a ≡ true) × (b ≡ true)
 both a b e = and-eq-true-iff a b .0 e
@@ -118,14 +120,22 @@ module _ (l : Listed) where
       (join (leb (nodes (l .updates)) 8192) asked (le-leb (nodes (l .updates)) 8192 (a .small))
       (join (every (allowedUpdate (l .tables)) (l .updates)) (readAll (l .tables .arrays) [] (l .updates)) (a .each) (a .reads))))
 
--- 32 signed bits, as question 21 counts and as the language does
-pub fits32-signed : (z : ℤ) → fits32 z ≡ true → SFits w32 z
-fits32-signed (pos n) e = record { sfits = let h = leb-true n 2147483647 e in omega arith }
-fits32-signed (negsuc n) e = record { sfits = let h = leb-true n 2147483647 (both (leb n 2147483647) true e .0) in omega arith }
+-- a range of signed numbers, by the magnitude
+pub signed-mag : (m : ℕ) (z : ℤ) → signed m z ≡ true → mag z ≤ m
+signed-mag m (pos n) e = leb-true n m e
+signed-mag m (negsuc n) e = leb-true n m (both (leb n m) true e .0)
 
-pub signed-fits32 : (z : ℤ) → SFits w32 z → fits32 z ≡ true
-signed-fits32 (pos n) h = le-leb n 2147483647 (let k = h .sfits in omega arith)
-signed-fits32 (negsuc n) h = join (leb n 2147483647) true (le-leb n 2147483647 (let k = h .sfits in omega arith)) refl
+pub mag-signed : (m : ℕ) (z : ℤ) → mag z ≤ m → signed m z ≡ true
+mag-signed m (pos n) h = le-leb n m h
+mag-signed m (negsuc n) h = join (leb n m) true (le-leb n m h) refl
+
+-- a width, as the questions count it and as the language does
+module _ (w : Width) (m : ℕ) (top : 2 ^ hbits w ≡ suc m) (z : ℤ) where
+  pub signed-fits : signed m z ≡ true → SFits w z
+  signed-fits e = record { sfits = let h = signed-mag m z e in omega arith }
+
+  pub fits-signed : SFits w z → signed m z ≡ true
+  fits-signed h = mag-signed m z (let k = h .sfits in omega arith)
 
 pub nodes-snoc : (before : List Update) (u : Update) → nodes (before ++ (u ∷ [])) ≡ nodes before + size (u .source)
 nodes-snoc [] u = omega arith

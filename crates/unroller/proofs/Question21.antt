@@ -1,5 +1,6 @@
 -- Question 21 was never answered with a "no": the run that asks it has the outcome of the run that does not.
-use Prim.Native.Nat.{ℕ, zero, suc, _+_, _*_}
+use Prim.Native.Nat.{ℕ, zero, suc, _+_, _*_, _≤_}
+use native.Mathlib.Omega.{arith}
 use mathlib.Core.Path.{_≡_, refl, ap, ap₂, _∙_}
 use mathlib.Core.List.{List, [], _∷_, _++_}
 use mathlib.Core.Bool.{Bool, true, false, _&&_}
@@ -19,12 +20,12 @@ use Rattle.reader.specs.Syntax.Exprs.{none, more}
 use Rattle.reader.specs.Syntax.Item.{statement, loop, guard}
 use Rattle.reader.specs.Syntax.Items.{end, item}
 use Rattle.reader.specs.Grammar.{readProgram}
-use Rattle.unroller.specs.Run.{Ran, ok, stop, _>>=_, ask, valueAt, inExtent, cellFrom, cellAt, tree, trees, readable, Done, update, indices, rounds, fits16, run, runs, nothing, runProgram}
+use Rattle.unroller.specs.Run.{Ran, ok, stop, _>>=_, ask, valueAt, inExtent, cellFrom, cellAt, tree, trees, readable, Done, update, indices, rounds, signed, fits16, run, runs, nothing, runProgram}
 use Rattle.unroller.specs.Unroll.{listedBy, unrolledBy, unrolled}
 use Rattle.unroller.specs.Asking as Asking
 use Rattle.unroller.specs.Fits.{narrow}
 use Rattle.unroller.proofs.Parts.{both}
-use Rattle.unroller.proofs.Fits.{indices-fit, forms-fit}
+use Rattle.unroller.proofs.Fits.{abs-signed, indices-fit, forms-bounded}
 use Rattle.unroller.proofs.Accepted.{Any, Sound, SoundAll, SoundItem, SoundItems, every-snoc, program-sound}
 
 -- what goes on alike
@@ -34,9 +35,12 @@ after (stop question place) f g h = refl
 
 -- at index values of 16 signed bits
 module _ (p : ℕ) (is : List ℤ) (fit : every fits16 is ≡ true) where
+  asked-is : (f : Form) → narrow f ≡ true → (m : ℕ) → 33587200 ≤ m → (ask 21 p (signed m (valueAt f is)) >>= λ _. ok (valueAt f is)) ≡ ok (valueAt f is)
+  asked-is f n m h = ap (λ (b : Bool). ask 21 p b >>= λ _. ok (valueAt f is)) (abs-signed m (valueAt f is) (let b = forms-bounded 32767 f is n fit in omega arith))
+
   worked-is : (f : Form) → narrow f ≡ true → Asking.worked p is f ≡ ok (valueAt f is)
   unfolding Asking.worked
-  worked-is f n = ap (λ (b : Bool). ask 21 p b >>= λ _. ok (valueAt f is)) (forms-fit f is n fit)
+  worked-is f n = asked-is f n _ (omega arith)
 
   cell-from-same : (n : ℕ) (es : List ℕ) (fs : List Form) → every narrow fs ≡ true → Asking.cellFrom p is n es fs ≡ cellFrom p is n es fs
   unfolding Asking.cellFrom cellFrom

@@ -5,12 +5,10 @@ use native.Mathlib.Omega.{arith}
 use mathlib.Core.List.{List}
 use mathlib.Core.Bool.{Bool, true, false, _&&_, false≢true}
 use lib.ListN.{take}
-use lib.Dec.{leb}
 use lib.IntN.{ℤ, pos, negsuc}
 use lib.Signed.{leZ, ltZ}
-use mir.Syntax.{w16, w64}
-use mir.Val.{SFits}
-use borrow.Author.Tests.{le-leb, lt-leb, leb-true, ltb-true, ltb-false}
+use mir.Syntax.{w64}
+use borrow.Author.Tests.{le-leb, lt-leb, ltb-true, ltb-false}
 use Rattle.reader.specs.Field.{Outcome, got, no, i16}
 use Rattle.reader.specs.Grammar.{form, step}
 use Rattle.reader.specs.Answers.{signedSays}
@@ -25,10 +23,9 @@ use Rattle.unroller.specs.declared.forms.Valued.{Valued}
 use Rattle.unroller.specs.declared.forms.Valued.the-variants as valued
 use Rattle.unroller.specs.declared.items.Range.{Range}
 use Rattle.unroller.specs.declared.items.Range.the-variants as range
-use Rattle.unroller.proofs.Parts.{both}
 use Rattle.unroller.proofs.Values.{values-none, values-some}
 
--- 16 signed bits, as the code tests them and as the language does
+-- 16 signed bits, as the code tests them
 pub below16 : (v : ℤ) → ltZ v (negsuc 32767) ≡ true → false ≡ fits16 v
 below16 (pos n) e = absurd (false≢true e)
 below16 (negsuc n) e = let h = ltb-true 32767 n e in rw (lt-leb n 32767 h)
@@ -36,10 +33,6 @@ below16 (negsuc n) e = let h = ltb-true 32767 n e in rw (lt-leb n 32767 h)
 pub within-16 : (v : ℤ) → ltZ v (negsuc 32767) ≡ false → leZ v (pos 32767) ≡ fits16 v
 within-16 (pos n) e = refl
 within-16 (negsuc n) e = let h = ltb-false 32767 n e in rw (le-leb n 32767 h)
-
-pub fits16-signed : (z : ℤ) → fits16 z ≡ true → SFits w16 z
-fits16-signed (pos n) e = record { sfits = let h = leb-true n 32767 e in omega arith }
-fits16-signed (negsuc n) e = record { sfits = let h = leb-true n 32767 (both (leb n 32767) true e .0) in omega arith }
 
 module _ (s : List ℕ) (at : ℕ) (first last : ℤ) (r₀ : Signed) (says : signedSays r₀ ≡ step s at) where
   pub steps-refused : (k p : ℕ) → r₀ ≡ signed.Not k p → Steps s at first last (range.No k)

@@ -21,7 +21,7 @@ use Rattle.unroller.specs.Layout.{padded, arrayWords, arraysWords, table
 use Rattle.unroller.specs.Decode.{decode}
 use Rattle.unroller.specs.State.{nowhere}
 use Rattle.unroller.specs.Stands.{basesFrom, basesOf, Proper, Three, ArrayAt, HeaderAt, many, TreeAt, TreesAt, UpdatesAt, Stands}
-use Rattle.unroller.proofs.Parts.{both, within-high, every-at, ArrayParts, array-parts, room, TablesParts, list-parts, fits32-signed}
+use Rattle.unroller.proofs.Parts.{both, within-high, every-at, ArrayParts, array-parts, room, TablesParts, list-parts, signed-fits}
 use Rattle.unroller.proofs.Encode.{padded-length, arrays-length}
 use Rattle.unroller.proofs.Inverse.{layout-decode}
 
@@ -147,7 +147,7 @@ module _ (w : List ℕ) (t : Tables) (arity : every (within 1 4) (t .arities) �
 
     tree-stands : (x : Tree) (left at : ℕ) (r : List ℕ) → proper x t left ≡ true → drop at w ≡ treeWords x ++ r → (to : ℕ) × TreeAt ops bases w x left at to × (drop to w ≡ r)
     tree-stands (cell a c) left at r p e = (at + 3, (three-at w at 16 a c r e, proper-inside (t .arrays) a c p, refl), drop-more w at 3 (16 ∷ a ∷ c ∷ r) e)
-    tree-stands (number z) left at r p e = (at + 3, (three-at w at 18 (ofZ w32 z) 0 r e, fits32-signed z p, refl), drop-more w at 3 (18 ∷ ofZ w32 z ∷ 0 ∷ r) e)
+    tree-stands (number z) left at r p e = (at + 3, (three-at w at 18 (ofZ w32 z) 0 r e, signed-fits w32 2147483647 refl z p, refl), drop-more w at 3 (18 ∷ ofZ w32 z ∷ 0 ∷ r) e)
     tree-stands (constant n) left at r p e = (at + 3, (three-at w at 19 n 0 r e, refl), drop-more w at 3 (19 ∷ n ∷ 0 ∷ r) e)
     tree-stands (operator o ts) zero at r p e = absurd (false≢true p)
     tree-stands (operator o ts) (suc left) at r p e =

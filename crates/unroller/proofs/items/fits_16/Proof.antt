@@ -10,7 +10,7 @@ use mir.Val.{SFits, toZ, ofZ}
 use mir.Facts.{toZ-ofZ}
 use Rattle.unroller.specs.Run.{fits16}
 use Rattle.unroller.specs.WalkItems.{Steps}
-use Rattle.unroller.proofs.Ranges.{below16, within-16, fits16-signed, steps-refused, steps-move, steps-over, steps-first, steps-last, ranges-first, ranges-last, ranges-both}
+use Rattle.unroller.proofs.Ranges.{below16, within-16, steps-refused, steps-move, steps-over, steps-first, steps-last, ranges-first, ranges-last, ranges-both}
 use Rattle.unroller.proofs.items.fits_16.Statement.{statement}
 use Rattle.unroller.proofs.items.fits_16.Tie as tie
 
