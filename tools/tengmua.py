@@ -26,7 +26,7 @@ tengmua: do two loop programs leave the same values?
   tengmua [--explain] [--places] [--bytes] [--unproved] [--] LEFT RIGHT
   tengmua [--explain] [--places] [--unproved] -
                                 a framed pair on standard input: the left's length in two bytes, the left, the right
-  tengmua --question N          what question N (1 to 27) asks, and what to do about a refusal
+  tengmua --question N          what question N (1 to 27, without 21) asks, and what to do about a refusal
   tengmua --help
 
 LEFT and RIGHT are program files (docs/FORMAT.md) or texts in the notation of separate/README.md. A file is a program file if it
@@ -660,7 +660,7 @@ def question_row(number):
                 return cells
             if line.startswith(f'- {number}, "'):
                 raise Failure(f'question {number} is retired: {line.strip().split(", ", 1)[1]}')
-    raise Failure(f"'{number}' is no question: they have the numbers 1 to 27")
+    raise Failure(f"'{number}' is no question: they have the numbers 1 to 27, without 21")
 
 
 def tell_question(word):
