@@ -1,4 +1,4 @@
--- Demand 2: what "equal" and "differs" say, for every meaning and every starting content.
+-- Demand 2: what "equal" and "differs" say, for every starting content and every meaning that respects the marks.
 use Prim.Native.Nat.{ℕ, zero, suc, _+_, _≤_, _<_}
 use native.Mathlib.Omega.{arith}
 use mathlib.Core.Path.{_≡_, refl, sym, ap, ap₂, _∙_, subst}
@@ -11,13 +11,13 @@ use Rattle.model.specs.Tables.{Array, arrayAt, starts, inside}
 use Rattle.model.specs.Update.{Tree, Listed}
 use Rattle.model.specs.Update.Tree.{cell}
 use Rattle.model.specs.Reply.{Reply, equal, differs, refused, both, isRefused}
-use Rattle.terms.specs.Term.{same, termCount}
-use Rattle.terms.proofs.Same.{same-sound, same-complete}
+use Rattle.terms.specs.Term.{termCount}
 use Rattle.unroller.specs.Allowed.{localsLast, readAll}
-use Rattle.comparer.specs.Meaning.{valueOf, after, free}
-use Rattle.comparer.specs.Match.{compared, comparedSize, firstDifference, agreeAt, writtenTerms, matched, sameTable, sameArray, nonLocal, operatorsReply, listsReply}
+use Rattle.comparer.specs.Meaning.{after, free}
+use Rattle.comparer.specs.Match.{swapping, compared, comparedSize, firstDifference, agreeAt, writtenTerms, matched, sameTable, sameArray, nonLocal, operatorsReply, listsReply}
 use Rattle.comparer.specs.Told.{Compared, Agree, Apart, Earlier, FirstApart, Told}
 use Rattle.comparer.proofs.Values.{after-law}
+use Rattle.comparer.proofs.Classes.{alike-value, classes, starting, classes-respect, same-class}
 use Rattle.comparer.proofs.Alike.{after-alike}
 use Rattle.comparer.proofs.First.{comparedIn, ElementAt, ElementNone, first-difference}
 use Rattle.comparer.proofs.SameTables.{sameArray-sound, tables-cases, non-local-role, started-shared, compared-shared}
@@ -37,8 +37,8 @@ pub record Sound (l : Listed) : Type 0 where
 -- 22, 23 and 24 have a yes
 pub record Passed (mask : ℕ) (l r : Listed) : Type 0 where
   pub arrays : nonLocal (l .tables .arrays) ≡ nonLocal (r .tables .arrays)
-  pub operators : l .tables .arities ≡ r .tables .arities
-  pub terms : leb (termCount (writtenTerms l r)) 4096 ≡ true
+  pub operators : l .tables .operators ≡ r .tables .operators
+  pub terms : leb (termCount (swapping l) (writtenTerms l r)) 4096 ≡ true
 
 abbrev pub found : ℕ → Listed → Listed → Reply
 found mask l r = firstDifference mask 0 (l .tables .arrays) (agreeAt l r) (equal (comparedSize mask 0 (l .tables .arrays)))
@@ -55,39 +55,53 @@ module _ (mask : ℕ) (l r : Listed) where
       operators = operatorsReply mask l r
 
       few : Bool
-      few = leb (termCount (writtenTerms l r)) 4096
+      few = leb (termCount (swapping l) (writtenTerms l r)) 4096
 
-      terms : nonLocal (l .tables .arrays) ≡ nonLocal (r .tables .arrays) → l .tables .arities ≡ r .tables .arities → listsReply mask l r ≡ matched mask l r
+      terms : nonLocal (l .tables .arrays) ≡ nonLocal (r .tables .arrays) → l .tables .operators ≡ r .tables .operators → listsReply mask l r ≡ matched mask l r
           → (b : Bool) → few ≡ b → matched mask l r ≡ cond b (found mask l r) (refused both 24 0) → Passed mask l r × (listsReply mask l r ≡ found mask l r)
       terms p q e true f g = (record { arrays = p; operators = q; terms = f }, e ∙ g)
       terms p q e false f g = never (listsReply mask l r) n (ap isRefused (e ∙ g))
 
-      arities : nonLocal (l .tables .arrays) ≡ nonLocal (r .tables .arrays) → listsReply mask l r ≡ operators
-          → ((l .tables .arities ≡ r .tables .arities) × (operators ≡ matched mask l r)) ⊎ ((j : ℕ) × (operators ≡ refused both 23 j)) → Passed mask l r × (listsReply mask l r ≡ found mask l r)
-      arities p e (inl q) = terms p (q .0) (e ∙ q .1) few refl refl
-      arities p e (inr q) = never (listsReply mask l r) n (ap isRefused (e ∙ q .1))
+      byOperators : nonLocal (l .tables .arrays) ≡ nonLocal (r .tables .arrays) → listsReply mask l r ≡ operators
+          → ((l .tables .operators ≡ r .tables .operators) × (operators ≡ matched mask l r)) ⊎ ((j : ℕ) × (operators ≡ refused both 23 j)) → Passed mask l r × (listsReply mask l r ≡ found mask l r)
+      byOperators p e (inl q) = terms p (q .0) (e ∙ q .1) few refl refl
+      byOperators p e (inr q) = never (listsReply mask l r) n (ap isRefused (e ∙ q .1))
 
       arrays : ((nonLocal (l .tables .arrays) ≡ nonLocal (r .tables .arrays)) × (listsReply mask l r ≡ operators)) ⊎ ((j : ℕ) × (listsReply mask l r ≡ refused both 22 j))
           → Passed mask l r × (listsReply mask l r ≡ found mask l r)
-      arrays (inl p) = arities (p .0) (p .1) (tables-cases eqb eqb-true 23 (matched mask l r) 0 (l .tables .arities) (r .tables .arities))
+      arrays (inl p) = byOperators (p .0) (p .1) (tables-cases eqb eqb-true 23 (matched mask l r) 0 (l .tables .operators) (r .tables .operators))
       arrays (inr p) = never (listsReply mask l r) n (ap isRefused (p .1))
 
   same-role : Sound l → Sound r → Passed mask l r → (a : ℕ) → arrayAt (l .tables .arrays) a .role ≡ arrayAt (r .tables .arrays) a .role
   same-role p q y a = sym (non-local-role false (l .tables .arrays) (p .ordered) a) ∙ ap (λ (xs : List Array). arrayAt xs a .role) (y .arrays) ∙ non-local-role false (r .tables .arrays) (q .ordered) a
 
   agree-true : Sound l → Sound r → Passed mask l r → (a e : ℕ) → Compared mask l a e → agreeAt l r a e ≡ true → Agree l r a e
-  agree-true p q y a e at s S m h k shared =
+  agree-true p q y a e at s S m respects h k shared =
       after-law m h (l .updates) a e
-      ∙ ap (λ (t : Tree). valueOf m t h) (same-sound (after free (l .updates) cell a e) (after free (r .updates) cell a e) s)
+      ∙ alike-value (swapping l) m respects h (after free (l .updates) cell a e) (after free (r .updates) cell a e) s
       ∙ sym (after-law m h (r .updates) a e)
       ∙ after-alike m (r .tables .arrays) (r .updates) [] h k (λ b d f. shared b d (started-shared (arrayAt (l .tables .arrays) b) (rw (same-role p q y b) (sym (or-false (starts (arrayAt (r .tables .arrays) b))) ∙ f)))) (q .reads) a e
       (λ f. shared a e (compared-shared mask a (arrayAt (l .tables .arrays) a) (and-eq-true-iff (compared mask a (arrayAt (l .tables .arrays) a)) (inside (l .tables .arrays) a e) .0 at .0)))
 
+  -- what the sides leave has the same value where terms are told by their classes: they are alike
+  classed : (a e : ℕ) → after (classes (swapping l)) (l .updates) (starting (swapping l)) a e ≡ after (classes (swapping l)) (r .updates) (starting (swapping l)) a e → agreeAt l r a e ≡ true
+  classed a e g =
+      same-class (swapping l) (after free (l .updates) cell a e) (after free (r .updates) cell a e)
+      (sym (after-law (classes (swapping l)) (starting (swapping l)) (l .updates) a e) ∙ g ∙ after-law (classes (swapping l)) (starting (swapping l)) (r .updates) a e)
+
   apart-false : (a e : ℕ) → agreeAt l r a e ≡ false → Apart l r a e
-  apart-false a e f = record { S = Tree; meaning = free; one = cell; other = cell; shared = λ b d g. refl; apart = λ g. true≢false (sym (same-complete (after free (l .updates) cell a e) (after free (r .updates) cell a e) g) ∙ f) }
+  apart-false a e f = record {
+    S = Tree → Bool;
+    meaning = classes (swapping l);
+    respects = classes-respect (swapping l);
+    one = starting (swapping l);
+    other = starting (swapping l);
+    shared = λ b d g. refl;
+    apart = λ g. true≢false (sym (classed a e g) ∙ f);
+  }
 
   not-apart : (a e : ℕ) → Agree l r a e → Apart l r a e → ⊥
-  not-apart a e g p = p .apart (g (p .S) (p .meaning) (p .one) (p .other) (p .shared))
+  not-apart a e g p = p .apart (g (p .S) (p .meaning) (p .respects) (p .one) (p .other) (p .shared))
 
   told : Sound l → Sound r → Passed mask l r → listsReply mask l r ≡ found mask l r
       → ElementNone (l .tables .arrays) 0 mask (agreeAt l r) (equal (comparedSize mask 0 (l .tables .arrays))) (found mask l r) ⊎ ElementAt (l .tables .arrays) 0 mask (agreeAt l r) (found mask l r)

@@ -5,12 +5,12 @@ use mathlib.Core.Path.{_≡_, refl}
 use mathlib.Core.List.{List, [], _∷_}
 use mathlib.Core.Bool.{Bool, true, false, false≢true}
 use lib.ListN.{length, getD}
-use Rattle.model.specs.Tables.{Array, Tables}
+use Rattle.model.specs.Tables.{Array, Tables, swaps, operatorIn, arityOf, swapsAt}
 use Rattle.model.specs.Update.{Tree, Trees, Update, Listed, size, sizes, readsCell, readsCells}
 use Rattle.model.specs.Update.Tree.{cell, operator}
 use Rattle.model.specs.Update.Trees.{nil, cons}
 use Rattle.model.specs.Reply.{Reply, equal, differs}
-use Rattle.terms.specs.Term.{same, sames, parts, partsOf, termCount}
+use Rattle.terms.specs.Term.{turned, alike, alikes, parts, partsOf, termCount}
 use Rattle.unroller.specs.Run.{readable, readables}
 use Rattle.unroller.specs.Allowed.{allowed, allowedTables, allowedUpdate, mayWrite, proper, propers}
 use Rattle.unroller.specs.Layout.{layout}
@@ -32,12 +32,12 @@ both x y = operator 0 (cons x (cons y nil))
 -- arrays: 0 in, 1 out, 2 local; out[0] = f(in[0], in[1]); local[0] = in[0]; out[1] = f(local[0], in[1])
 abbrev one : Listed
 one = record {
-  tables = record { arities = two; arrays = record { role = 0; extents = two } ∷ record { role = 1; extents = two } ∷ record { role = 3; extents = two } ∷ [] };
+  tables = record { operators = two; arrays = record { role = 0; extents = two } ∷ record { role = 1; extents = two } ∷ record { role = 3; extents = two } ∷ [] };
   updates = write 1 0 (both (cell 0 0) (cell 0 1)) ∷ write 2 0 (cell 0 0) ∷ write 1 1 (both (cell 2 0) (cell 0 1)) ∷ [];
 }
 
 is-allowed : allowed one ≡ true
-unfolding allowed allowedTables allowedUpdate mayWrite readable readables size sizes proper propers
+unfolding allowed allowedTables allowedUpdate mayWrite readable readables size sizes swaps operatorIn arityOf proper propers
 is-allowed = refl
 
 order : List ℕ
@@ -80,12 +80,12 @@ unfolding memory
 is-kept = demand3 (layout one 200) one (layout-read one 200 is-allowed) order is-order
 
 equal-here : listsReply 65535 one (reorder one order) ≡ equal 2
-unfolding order listsReply same sames parts partsOf termCount valueOf valuesOf
+unfolding order listsReply turned alike alikes swapsAt swaps parts partsOf termCount valueOf valuesOf
 equal-here = refl
 
 -- with the conflict turned round the list reads an unwritten local
 unread-here : allowed (reorder one (2 ∷ 1 ∷ 0 ∷ [])) ≡ false
-unfolding allowed allowedTables allowedUpdate mayWrite readable readables size sizes proper propers
+unfolding allowed allowedTables allowedUpdate mayWrite readable readables size sizes swaps operatorIn arityOf proper propers
 unread-here = refl
 
 -- two writes of one cell, turned round, differ
@@ -93,5 +93,5 @@ abbrev twice : Listed
 twice = record { tables = one .tables; updates = write 1 1 (cell 0 0) ∷ write 1 1 (cell 0 1) ∷ [] }
 
 differs-here : listsReply 65535 twice (reorder twice (1 ∷ 0 ∷ [])) ≡ differs 1 1
-unfolding listsReply same sames parts partsOf termCount valueOf valuesOf
+unfolding listsReply turned alike alikes swapsAt swaps parts partsOf termCount valueOf valuesOf
 differs-here = refl

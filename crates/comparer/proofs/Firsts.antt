@@ -28,36 +28,36 @@ module _ (left right m : List ℕ) (p q a size : ℕ) where
   -- no array has its cells outside
   pub cells-outside-left : false ≡ leb (p + size) (length left) → (d : ℕ) → FirstCell left right m p q a size 0 d
   unfolding FirstCell
-  cells-outside-left h d l r S found none = absurd (omega (arith, leb-false (p + size) (length left) (sym h), S .left-room))
+  cells-outside-left h d swaps l r S found none = absurd (omega (arith, leb-false (p + size) (length left) (sym h), S .left-room))
 
   pub cells-outside-right : false ≡ leb (q + size) (length right) → (d : ℕ) → FirstCell left right m p q a size 0 d
   unfolding FirstCell
-  cells-outside-right h d l r S found none = absurd (omega (arith, leb-false (q + size) (length right) (sym h), S .right-room))
+  cells-outside-right h d swaps l r S found none = absurd (omega (arith, leb-false (q + size) (length right) (sym h), S .right-room))
 
   module _ (c : ℕ) where
     pub cell-end : size ≤ c → FirstCell left right m p q a size c c
     unfolding FirstCell
-    cell-end h l r S found none =
+    cell-end h swaps l r S found none =
         let e : size - c ≡ 0 = omega arith in
         rw (e, le-ltb c size h)
 
     module _ (h : c < size) (b : Bool) (A : Agrees m (getD left (p + c) 0) (getD right (q + c) 0) a c b) where
-      test : (l r : Content Tree) → Sides left right m p q a size l r → b ≡ agree l r a c
+      test : (swaps : ℕ → Bool) (l r : Content Tree) → Sides swaps left right m p q a size l r → b ≡ agree swaps l r a c
       unfolding Agrees
-      test l r S = A (S .count) (S .ts) (l a c) (r a c) (S .stored) (S .left-shows c h) (S .right-shows c h)
+      test swaps l r S = A swaps (S .count) (S .ts) (l a c) (r a c) (S .stored) (S .left-shows c h) (S .right-shows c h)
 
       one-more : size - c ≡ suc (size - (c + 1))
       one-more = omega arith
 
       pub cell-stop : b ≡ false → FirstCell left right m p q a size c c
       unfolding FirstCell
-      cell-stop e l r S found none = rw (one-more, sym (test l r S) ∙ e, lt-ltb c size h)
+      cell-stop e swaps l r S found none = rw (one-more, sym (test swaps l r S) ∙ e, lt-ltb c size h)
 
       pub cell-step : b ≡ true → (d : ℕ) → FirstCell left right m p q a size (c + 1) d → FirstCell left right m p q a size c d
       unfolding FirstCell
-      cell-step e d F l r S found none =
-          rw (one-more, sym (test l r S) ∙ e)
-          (ap (λ (x : ℕ). firstCell (size - (c + 1)) x (agree l r a) found none) (sym (add-one c)) ∙ F l r S found none)
+      cell-step e d F swaps l r S found none =
+          rw (one-more, sym (test swaps l r S) ∙ e)
+          (ap (λ (x : ℕ). firstCell (size - (c + 1)) x (agree swaps l r a) found none) (sym (add-one c)) ∙ F swaps l r S found none)
 
 -- ---- one array more
 module _ (mask a : ℕ) (x : Array) (xs : List Array) (ag : ℕ → ℕ → Bool) (sum : ℕ) where
@@ -100,12 +100,12 @@ module _ (list : List ℕ) (mask : ℕ) (lefts rights left right m : List ℕ) w
   -- no table has so many arrays
   pub arrays-many : (n : ℕ) → n ≡ getD list 17 0 → 16 < n → (x : Reply) → First 0 0 x
   unfolding FirstArray
-  arrays-many n e h x t l r H P S = absurd (omega (arith, H .count, count-few list t H (tables-parts t P)))
+  arrays-many n e h x swaps t l r H P S = absurd (omega (arith, H .count, count-few list t H (tables-parts t P)))
 
   module _ (n : ℕ) (e : n ≡ getD list 17 0) (a sum : ℕ) where
     pub array-end : n ≤ a → First a sum (reply.Equal sum)
     unfolding FirstArray
-    array-end h t l r H P S = go (drop a (t .arrays)) (drop-all (t .arrays) a (omega (arith, H .count)))
+    array-end h swaps t l r H P S = go (drop a (t .arrays)) (drop-all (t .arrays) a (omega (arith, H .count)))
       where
         drop-all : (xs : List Array) (k : ℕ) → length xs ≤ k → drop k xs ≡ []
         drop-all [] zero i = refl
@@ -113,63 +113,63 @@ module _ (list : List ℕ) (mask : ℕ) (lefts rights left right m : List ℕ) w
         drop-all (x ∷ xs) zero i = absurd (omega arith)
         drop-all (x ∷ xs) (suc k) i = drop-all xs k (omega arith)
 
-        go : (xs : List Array) → xs ≡ [] → model.equal sum ≡ firstDifference mask a xs (agree l r) (model.equal (sum + comparedSize mask a xs))
+        go : (xs : List Array) → xs ≡ [] → model.equal sum ≡ firstDifference mask a xs (agree swaps l r) (model.equal (sum + comparedSize mask a xs))
         go xs q = let z : sum ≡ sum + 0 = omega arith in rw q (ap model.equal z)
 
     module _ (h : a < n) where
-      module _ (t : Tables) (l r : Content Tree) (H : HeaderAt list t) where
+      module _ (swaps : ℕ → Bool) (t : Tables) (l r : Content Tree) (H : HeaderAt list t) where
         inside : a < length (t .arrays)
         inside = omega (arith, H .count)
 
         -- the arrays from a on are array a and those behind it
         from-here : (k : ℕ) (x : model.Reply)
-            → x ≡ Whole mask a (arrayAt (t .arrays) a) (drop (suc a) (t .arrays)) (agree l r) k
-            → x ≡ firstDifference mask a (drop a (t .arrays)) (agree l r) (model.equal (k + comparedSize mask a (drop a (t .arrays))))
+            → x ≡ Whole mask a (arrayAt (t .arrays) a) (drop (suc a) (t .arrays)) (agree swaps l r) k
+            → x ≡ firstDifference mask a (drop a (t .arrays)) (agree swaps l r) (model.equal (k + comparedSize mask a (drop a (t .arrays))))
         from-here k x w = rw (drop-cons (t .arrays) a (arrayAt [] 0) inside) w
 
         from-next : (k : ℕ) (x : model.Reply)
-            → x ≡ firstDifference mask (a + 1) (drop (a + 1) (t .arrays)) (agree l r) (model.equal (k + comparedSize mask (a + 1) (drop (a + 1) (t .arrays))))
-            → x ≡ Behind mask a (arrayAt (t .arrays) a) (drop (suc a) (t .arrays)) (agree l r) k k
+            → x ≡ firstDifference mask (a + 1) (drop (a + 1) (t .arrays)) (agree swaps l r) (model.equal (k + comparedSize mask (a + 1) (drop (a + 1) (t .arrays))))
+            → x ≡ Behind mask a (arrayAt (t .arrays) a) (drop (suc a) (t .arrays)) (agree swaps l r) k k
         from-next k x w =
-            subst (λ (b : ℕ). x ≡ firstDifference mask b (drop b (t .arrays)) (agree l r) (model.equal (k + comparedSize mask b (drop b (t .arrays))))) (add-one a) w
+            subst (λ (b : ℕ). x ≡ firstDifference mask b (drop b (t .arrays)) (agree swaps l r) (model.equal (k + comparedSize mask b (drop b (t .arrays))))) (add-one a) w
 
         answered : allowedTables t ≡ true → (b : Bool) → b ≡ comparedAt list mask a → compared mask a (arrayAt (t .arrays) a) ≡ b
         answered P b q = sym (q ∙ compared-is list t H (tables-parts t P) a inside mask)
 
       pub array-skip : false ≡ comparedAt list mask a → (x : Reply) → First (a + 1) sum x → First a sum x
       unfolding FirstArray
-      array-skip q x F t l r H P S =
-          from-here t l r H sum (replySays x)
-          (from-next t l r H sum (replySays x) (F t l r H P S)
-          ∙ first-off mask a (arrayAt (t .arrays) a) (drop (suc a) (t .arrays)) (agree l r) sum (answered t l r H P false q))
+      array-skip q x F swaps t l r H P S =
+          from-here swaps t l r H sum (replySays x)
+          (from-next swaps t l r H sum (replySays x) (F swaps t l r H P S)
+          ∙ first-off mask a (arrayAt (t .arrays) a) (drop (suc a) (t .arrays)) (agree swaps l r) sum (answered swaps t l r H P false q))
 
       module _ (q : true ≡ comparedAt list mask a) (size : ℕ) (z : size ≡ sizeAt list a) (d : ℕ)
           (D : FirstCell left right m (getD lefts a 0) (getD rights a 0) a size 0 d) where
-        module _ (t : Tables) (l r : Content Tree) (H : HeaderAt list t) (P : allowedTables t ≡ true) where
+        module _ (swaps : ℕ → Bool) (t : Tables) (l r : Content Tree) (H : HeaderAt list t) (P : allowedTables t ≡ true) where
           size-own : size ≡ cells (arrayAt (t .arrays) a .extents)
-          size-own = z ∙ size-cells list t H (tables-parts t P) a (inside t l r H)
+          size-own = z ∙ size-cells list t H (tables-parts t P) a (inside swaps t l r H)
 
-          first-is : Sides left right m (getD lefts a 0) (getD rights a 0) a (cells (arrayAt (t .arrays) a .extents)) l r → (none : model.Reply)
-              → firstCell size 0 (agree l r a) (model.differs a) none ≡ cond (ltb d size) (model.differs a d) none
+          first-is : Sides swaps left right m (getD lefts a 0) (getD rights a 0) a (cells (arrayAt (t .arrays) a .extents)) l r → (none : model.Reply)
+              → firstCell size 0 (agree swaps l r a) (model.differs a) none ≡ cond (ltb d size) (model.differs a d) none
           unfolding FirstCell
           first-is S none =
               let y : size ≡ size - 0 = omega arith in
-              ap (λ (k : ℕ). firstCell k 0 (agree l r a) (model.differs a) none) y
-              ∙ D l r (subst (λ (k : ℕ). Sides left right m (getD lefts a 0) (getD rights a 0) a k l r) (sym size-own) S) (model.differs a) none
+              ap (λ (k : ℕ). firstCell k 0 (agree swaps l r a) (model.differs a) none) y
+              ∙ D swaps l r (subst (λ (k : ℕ). Sides swaps left right m (getD lefts a 0) (getD rights a 0) a k l r) (sym size-own) S) (model.differs a) none
 
         pub array-differs : d < size → First a sum (reply.Differs a d)
         unfolding FirstArray
-        array-differs i t l r H P S =
-            let on = answered t l r H P true q in
-            from-here t l r H sum (model.differs a d)
-            (first-here mask a (arrayAt (t .arrays) a) (drop (suc a) (t .arrays)) (agree l r) sum on size d (size-own t l r H P)
-            (first-is t l r H P (S a (inside t l r H) on)) i)
+        array-differs i swaps t l r H P S =
+            let on = answered swaps t l r H P true q in
+            from-here swaps t l r H sum (model.differs a d)
+            (first-here mask a (arrayAt (t .arrays) a) (drop (suc a) (t .arrays)) (agree swaps l r) sum on size d (size-own swaps t l r H P)
+            (first-is swaps t l r H P (S a (inside swaps t l r H) on)) i)
 
         pub array-more : size ≤ d → (x : Reply) → First (a + 1) (sum + size) x → First a sum x
         unfolding FirstArray
-        array-more i x F t l r H P S =
-            let on = answered t l r H P true q in
-            from-here t l r H sum (replySays x)
-            (from-next t l r H (sum + size) (replySays x) (F t l r H P S)
-            ∙ first-past mask a (arrayAt (t .arrays) a) (drop (suc a) (t .arrays)) (agree l r) sum on size d (size-own t l r H P)
-            (first-is t l r H P (S a (inside t l r H) on)) i)
+        array-more i x F swaps t l r H P S =
+            let on = answered swaps t l r H P true q in
+            from-here swaps t l r H sum (replySays x)
+            (from-next swaps t l r H (sum + size) (replySays x) (F swaps t l r H P S)
+            ∙ first-past mask a (arrayAt (t .arrays) a) (drop (suc a) (t .arrays)) (agree swaps l r) sum on size d (size-own swaps t l r H P)
+            (first-is swaps t l r H P (S a (inside swaps t l r H) on)) i)

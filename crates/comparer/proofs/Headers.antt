@@ -79,7 +79,7 @@ module _ (list : List ℕ) (t : model.Tables) (h : Heads list t) where
   pub counted : Counted list
   counted =
       let p = parts.tables-parts t (h .allows) in
-      let n = parts.within-high 0 16 (length (t .arities)) (p .operators) in
+      let n = parts.within-high 0 16 (length (t .operators)) (p .operators) in
       let m = parts.within-high 1 16 (length (t .arrays)) (p .count) in
       let a = h .header .operators in
       let b = h .header .count in
@@ -181,8 +181,8 @@ module _ (left right : List ℕ) where
   unfolding OperatorsTell
   operators-tell i r f e x y h g agreed =
       let k : ℕ = i - 1 in
-      let xs = x .arities in
-      let ys = y .arities in
+      let xs = x .operators in
+      let ys = y .operators in
       let n = h .header .operators in
       let m = g .header .operators in
       let c = counted left x h .operators in
@@ -190,24 +190,24 @@ module _ (left right : List ℕ) where
       let low = f .low in
       let high = f .high in
       let same : (j : ℕ) → j < k → eqb (getD xs j 0) (getD ys j 0) ≡ true =
-      λ j s. eq-eqb (getD xs j 0) (getD ys j 0) (sym (h .header .arity j (omega arith)) ∙ f .same (1 + j) (omega arith) (omega arith) ∙ g .header .arity j (omega arith)) in
+      λ j s. eq-eqb (getD xs j 0) (getD ys j 0) (sym (h .header .word j (omega arith)) ∙ f .same (1 + j) (omega arith) (omega arith) ∙ g .header .word j (omega arith)) in
       let apart : k < length xs → k < length ys → eqb (getD xs k 0) (getD ys k 0) ≡ false =
       λ s t.
       let w : 1 + k ≡ i = omega arith in
-      ne-eqb (getD xs k 0) (getD ys k 0) (λ z. f .apart (omega arith) (rw w at (h .header .arity k (omega arith) ∙ z ∙ sym (g .header .arity k (omega arith))))) in
+      ne-eqb (getD xs k 0) (getD ys k 0) (λ z. f .apart (omega arith) (rw w at (h .header .word k (omega arith) ∙ z ∙ sym (g .header .word k (omega arith))))) in
       table-tells eqb 23 agreed 0 k xs ys r (omega arith, omega arith, same, apart) (rw (n, m) at e)
 
   pub arrays-differ : (a : ℕ) → ArraysTell left right (table.Differs a) → TablesTell left right (tables.Arrays a)
   unfolding ArraysTell TablesTell
-  arrays-differ a p x y h g agreed = p x y h g (sameTable eqb 23 agreed 0 (x .arities) (y .arities))
+  arrays-differ a p x y h g agreed = p x y h g (sameTable eqb 23 agreed 0 (x .operators) (y .operators))
 
   pub operators-differ : (o : ℕ) → ArraysTell left right table.Same → OperatorsTell left right (table.Differs o) → TablesTell left right (tables.Operators o)
   unfolding ArraysTell OperatorsTell TablesTell
-  operators-differ o p q x y h g agreed = p x y h g (sameTable eqb 23 agreed 0 (x .arities) (y .arities)) ∙ q x y h g agreed
+  operators-differ o p q x y h g agreed = p x y h g (sameTable eqb 23 agreed 0 (x .operators) (y .operators)) ∙ q x y h g agreed
 
   pub tables-agree : ArraysTell left right table.Same → OperatorsTell left right table.Same → TablesTell left right tables.Same
   unfolding ArraysTell OperatorsTell TablesTell
-  tables-agree p q x y h g agreed = p x y h g (sameTable eqb 23 agreed 0 (x .arities) (y .arities)) ∙ q x y h g agreed
+  tables-agree p q x y h g agreed = p x y h g (sameTable eqb 23 agreed 0 (x .operators) (y .operators)) ∙ q x y h g agreed
 
 -- one more word that is the same
 pub same-more : (left right : List ℕ) (from i : ℕ) → ((j : ℕ) → from ≤ j → j < i → getD left j 0 ≡ getD right j 0) → getD left i 0 ≡ getD right i 0

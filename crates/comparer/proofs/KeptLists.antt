@@ -9,11 +9,11 @@ use Rattle.model.specs.Tables.{Array}
 use Rattle.model.specs.Update.{Tree, Update, Listed, size, nodes}
 use Rattle.model.specs.Update.Tree.{cell}
 use Rattle.model.specs.Reply.{Reply, equal, refused, both}
-use Rattle.terms.specs.Term.{same, among, parts, partsOfAll, termCount}
+use Rattle.terms.specs.Term.{alike, among, parts, partsOfAll, termCount}
 use Rattle.terms.proofs.Count.{among-append, same-count}
 use Rattle.unroller.specs.Allowed.{allowed, allowedTables, allowedUpdate}
 use Rattle.comparer.specs.Meaning.{Meaning, Content, after, free, values}
-use Rattle.comparer.specs.Match.{comparedSize, firstDifference, matched, sameTable, sameArray, nonLocal, operatorsReply, listsReply}
+use Rattle.comparer.specs.Match.{swapping, comparedSize, firstDifference, matched, sameTable, sameArray, nonLocal, operatorsReply, listsReply}
 use Rattle.comparer.specs.Order.{inOrder, NewOrder, reorder}
 use Rattle.comparer.proofs.Reorder.{Reordered, after-reordered, total-reordered, every-reordered, length-reordered, readAll-reordered, occurs-reordered}
 use Rattle.comparer.proofs.Positions.{reordered}
@@ -27,15 +27,15 @@ pub record KeptLists (l new : Listed) : Type 1 where
   pub onRight : (mask : ℕ) (r : Listed) → listsReply mask r new ≡ listsReply mask r l
 
 -- how many terms occur on either side
-abbrev terms : List Update → List Update → ℕ
-terms us vs = termCount (values us cell ++ values vs cell)
+abbrev terms : (ℕ → Bool) → List Update → List Update → ℕ
+terms swaps us vs = termCount swaps (values us cell ++ values vs cell)
 
 -- the reply from the number of terms and what the two sides leave
-abbrev reply : ℕ → List Array → ℕ → Content Tree → Content Tree → Reply
-reply mask xs n left right = cond (leb n 4096) (firstDifference mask 0 xs (λ a c. same (left a c) (right a c)) (equal (comparedSize mask 0 xs))) (refused both 24 0)
+abbrev reply : (ℕ → Bool) → ℕ → List Array → ℕ → Content Tree → Content Tree → Reply
+reply swaps mask xs n left right = cond (leb n 4096) (firstDifference mask 0 xs (λ a c. alike swaps (left a c) (right a c)) (equal (comparedSize mask 0 xs))) (refused both 24 0)
 
-parts-append : (t : Tree) (xs ys : List Tree) → among t (partsOfAll (xs ++ ys)) ≡ among t (partsOfAll xs) || among t (partsOfAll ys)
-parts-append t xs ys = ap (among t) (go xs) ∙ among-append t (partsOfAll xs) (partsOfAll ys)
+parts-append : (swaps : ℕ → Bool) (t : Tree) (xs ys : List Tree) → among swaps t (partsOfAll (xs ++ ys)) ≡ among swaps t (partsOfAll xs) || among swaps t (partsOfAll ys)
+parts-append swaps t xs ys = ap (among swaps t) (go xs) ∙ among-append swaps t (partsOfAll xs) (partsOfAll ys)
   where
     go : (xs : List Tree) → partsOfAll (xs ++ ys) ≡ partsOfAll xs ++ partsOfAll ys
     go [] = refl
@@ -45,23 +45,23 @@ module _ (l : Listed) (us : List Update) (s : Reordered (l .updates) us) where
   new : Listed
   new = record { tables = l .tables; updates = us }
 
-  terms-left : (vs : List Update) → terms us vs ≡ terms (l .updates) vs
+  terms-left : (swaps : ℕ → Bool) (vs : List Update) → terms swaps us vs ≡ terms swaps (l .updates) vs
   unfolding termCount
-  terms-left vs = same-count (partsOfAll (values us cell ++ values vs cell)) (partsOfAll (values (l .updates) cell ++ values vs cell)) (λ t.
-      parts-append t (values us cell) (values vs cell) ∙ ap (λ (b : Bool). b || among t (partsOfAll (values vs cell))) (sym (occurs-reordered t s cell)) ∙ sym (parts-append t (values (l .updates) cell) (values vs cell)))
+  terms-left swaps vs = same-count swaps (partsOfAll (values us cell ++ values vs cell)) (partsOfAll (values (l .updates) cell ++ values vs cell)) (λ t.
+      parts-append swaps t (values us cell) (values vs cell) ∙ ap (λ (b : Bool). b || among swaps t (partsOfAll (values vs cell))) (sym (occurs-reordered swaps t s cell)) ∙ sym (parts-append swaps t (values (l .updates) cell) (values vs cell)))
 
-  terms-right : (vs : List Update) → terms vs us ≡ terms vs (l .updates)
+  terms-right : (swaps : ℕ → Bool) (vs : List Update) → terms swaps vs us ≡ terms swaps vs (l .updates)
   unfolding termCount
-  terms-right vs = same-count (partsOfAll (values vs cell ++ values us cell)) (partsOfAll (values vs cell ++ values (l .updates) cell)) (λ t.
-      parts-append t (values vs cell) (values us cell) ∙ ap (λ (b : Bool). among t (partsOfAll (values vs cell)) || b) (sym (occurs-reordered t s cell)) ∙ sym (parts-append t (values vs cell) (values (l .updates) cell)))
+  terms-right swaps vs = same-count swaps (partsOfAll (values vs cell ++ values us cell)) (partsOfAll (values vs cell ++ values (l .updates) cell)) (λ t.
+      parts-append swaps t (values vs cell) (values us cell) ∙ ap (λ (b : Bool). among swaps t (partsOfAll (values vs cell)) || b) (sym (occurs-reordered swaps t s cell)) ∙ sym (parts-append swaps t (values vs cell) (values (l .updates) cell)))
 
   on-left : (mask : ℕ) (r : Listed) → matched mask new r ≡ matched mask l r
   unfolding new
-  on-left mask r = ap₂ (λ (n : ℕ) (left : Content Tree). reply mask (l .tables .arrays) n left (after free (r .updates) cell)) (terms-left (r .updates)) (sym (after-reordered free s cell))
+  on-left mask r = ap₂ (λ (n : ℕ) (left : Content Tree). reply (swapping l) mask (l .tables .arrays) n left (after free (r .updates) cell)) (terms-left (swapping l) (r .updates)) (sym (after-reordered free s cell))
 
   on-right : (mask : ℕ) (r : Listed) → matched mask r new ≡ matched mask r l
   unfolding new
-  on-right mask r = ap₂ (λ (n : ℕ) (right : Content Tree). reply mask (r .tables .arrays) n (after free (r .updates) cell) right) (terms-right (r .updates)) (sym (after-reordered free s cell))
+  on-right mask r = ap₂ (λ (n : ℕ) (right : Content Tree). reply (swapping r) mask (r .tables .arrays) n (after free (r .updates) cell) right) (terms-right (swapping r) (r .updates)) (sym (after-reordered free s cell))
 
   kept : KeptLists l new
   unfolding new listsReply
@@ -83,7 +83,7 @@ module _ (l : Listed) (us : List Update) (s : Reordered (l .updates) us) where
           && (sym (every-reordered (allowedUpdate (l .tables)) s) i && sym (readAll-reordered (l .tables .arrays) s []) i)))
 
       answer : Listed → Listed → Reply → Reply
-      answer x y match = sameTable sameArray 22 (sameTable eqb 23 match 0 (x .tables .arities) (y .tables .arities)) 0 (nonLocal (x .tables .arrays)) (nonLocal (y .tables .arrays))
+      answer x y match = sameTable sameArray 22 (sameTable eqb 23 match 0 (x .tables .operators) (y .tables .operators)) 0 (nonLocal (x .tables .arrays)) (nonLocal (y .tables .arrays))
 
 -- every list, every new order
 pub reordered-kept : (l : Listed) (order : List ℕ) → NewOrder (l .updates) order → KeptLists l (reorder l order)

@@ -1,4 +1,5 @@
 pub mod Values
+pub mod Classes
 pub mod First
 pub mod Alike
 pub mod SameTables

@@ -8,7 +8,7 @@ use mathlib.Core.Bool.{Bool, true, false, _&&_}
 use mathlib.Core.Option.{some}
 use lib.ListN.{length, replicate, length-replicate}
 use lib.Dec.{leb, eqb}
-use borrow.Author.Tests.{lt-leb, le-leb, leb-true}
+use borrow.Author.Tests.{lt-leb, le-leb, leb-true, eqb-true}
 use Rattle.model.specs.Test.{if_then_else_}
 use Rattle.model.specs.Update.{Listed}
 use Rattle.model.specs.Reply as model
@@ -25,7 +25,7 @@ use Rattle.comparer.specs.Matching.{Matches}
 use Rattle.comparer.specs.Answers.{replySays}
 use Rattle.comparer.specs.Asked.{Held, Room, Asked}
 use Rattle.comparer.specs.Entry.{enough, decodedReply, wordsReply}
-use Rattle.comparer.specs.Headers.{Heads, Counted, TablesTell}
+use Rattle.comparer.specs.Headers.{Heads, Counted, tablesReply, TablesTell}
 use Rattle.comparer.specs.declared.reply.Reply.{Reply}
 use Rattle.comparer.specs.declared.reply.Reply.the-variants as reply
 use Rattle.comparer.specs.declared.reply.Side.the-variants as side
@@ -107,10 +107,28 @@ module _ (left right : List ℕ) (mask : ℕ) (cells terms : List ℕ) where
   unfolding TablesTell
   same-arrays t l r h g =
       ⊎-elim (λ p. p .0) (λ p. absurd (apart (p .0) (sym (t (l .tables) (r .tables) (held-heads h) (held-heads g) (model.equal 0)) ∙ p .1)))
-      (tables-cases sameArray sameArray-sound 22 (sameTable eqb 23 (model.equal 0) 0 (l .tables .arities) (r .tables .arities)) 0 (nonLocal (l .tables .arrays)) (nonLocal (r .tables .arrays)))
+      (tables-cases sameArray sameArray-sound 22 (sameTable eqb 23 (model.equal 0) 0 (l .tables .operators) (r .tables .operators)) 0 (nonLocal (l .tables .arrays)) (nonLocal (r .tables .arrays)))
     where
       apart : (j : ℕ) → model.equal 0 ≡ model.refused model.both 22 j → ⊥
       apart j e = let z : _≡_ {A = ℕ} 0 1 = cc in omega arith
+
+  -- and so are the operators, marks included
+  same-operators : TablesTell left right tables.Same → (l r : Listed) → Held left l → Held right r → l .tables .operators ≡ r .tables .operators
+  unfolding TablesTell
+  same-operators t l r h g =
+      ⊎-elim (λ p. p .0) (λ p. absurd (apart (p .0) (sym (t (l .tables) (r .tables) (held-heads h) (held-heads g) (model.equal 0)) ∙ arrays ∙ p .1)))
+      (tables-cases eqb eqb-true 23 (model.equal 0) 0 (l .tables .operators) (r .tables .operators))
+    where
+      apart : (j : ℕ) → model.equal 0 ≡ model.refused model.both 23 j → ⊥
+      apart j e = let z : _≡_ {A = ℕ} 0 1 = cc in omega arith
+
+      arrays : tablesReply (model.equal 0) (l .tables) (r .tables) ≡ sameTable eqb 23 (model.equal 0) 0 (l .tables .operators) (r .tables .operators)
+      arrays =
+          ⊎-elim (λ p. p .1) (λ p. absurd (other (p .0) (sym (t (l .tables) (r .tables) (held-heads h) (held-heads g) (model.equal 0)) ∙ p .1)))
+          (tables-cases sameArray sameArray-sound 22 (sameTable eqb 23 (model.equal 0) 0 (l .tables .operators) (r .tables .operators)) 0 (nonLocal (l .tables .arrays)) (nonLocal (r .tables .arrays)))
+        where
+          other : (j : ℕ) → model.equal 0 ≡ model.refused model.both 22 j → ⊥
+          other j e = let z : _≡_ {A = ℕ} 0 1 = cc in omega arith
 
   pub asked-match : (c t : List ℕ) (r : Reply) → TablesTell left right tables.Same → c ≡ cleared cells → t ≡ cleared terms → Matches left right mask c t r → Asked left right mask cells terms r
   unfolding Asked TablesTell Matches listsReply
@@ -119,7 +137,7 @@ module _ (left right : List ℕ) (mask : ℕ) (cells terms : List ℕ) where
       let q : length t ≡ length terms = ap length f ∙ length-replicate (length terms) 0 in
       let a = room .for-cells in
       let b = room .for-terms in
-      m x y (h .stands) (g .stands) (h .allows) (g .allows) (same-arrays tell x y h g) (omega arith) (omega arith)
+      m x y (h .stands) (g .stands) (h .allows) (g .allows) (same-arrays tell x y h g) (same-operators tell x y h g) (omega arith) (omega arith)
       (e ∙ sym (cleared-same cells c p)) (f ∙ sym (cleared-same terms t q))
       ∙ sym (tell (x .tables) (y .tables) (held-heads h) (held-heads g) (matched mask x y))
 

@@ -178,26 +178,27 @@ module _ (arrays : List Array) where
   readAll-reordered (next {u = u} p r) done = pick-readAll p done ∙ ap (λ (b : Bool). readable (u .source) arrays done && b) (readAll-reordered r (done ++ (u ∷ [])))
 
 -- the terms that occur
-abbrev occurs : Tree → List Update → Content Tree → Bool
-occurs t us h = among t (partsOfAll (values us h))
+module _ (swaps : ℕ → Bool) where
+  abbrev occurs : Tree → List Update → Content Tree → Bool
+  occurs t us h = among swaps t (partsOfAll (values us h))
 
-occurs-cons : (t : Tree) (u : Update) (us : List Update) (h : Content Tree) → occurs t (u ∷ us) h ≡ among t (parts (valueOf free (u .source) h)) || occurs t us (updated free h u)
-occurs-cons t u us h = among-append t (parts (valueOf free (u .source) h)) (partsOfAll (values us (updated free h u)))
+  occurs-cons : (t : Tree) (u : Update) (us : List Update) (h : Content Tree) → occurs t (u ∷ us) h ≡ among swaps t (parts (valueOf free (u .source) h)) || occurs t us (updated free h u)
+  occurs-cons t u us h = among-append swaps t (parts (valueOf free (u .source) h)) (partsOfAll (values us (updated free h u)))
 
-pick-occurs : (t : Tree) {u : Update} {us rest : List Update} → Pick u us rest → (h : Content Tree) → occurs t us h ≡ occurs t (u ∷ rest) h
-pick-occurs t here h = refl
-pick-occurs t {u} (later {v = v} {us = us} {rest = rest} e p) h =
-    let q = quiet u v e in
-    let part : Update → Content Tree → Bool = λ w k. among t (parts (valueOf free (w .source) k)) in
-    occurs-cons t v us h
-    ∙ ap (λ (b : Bool). part v h || b) (pick-occurs t p (updated free h v) ∙ occurs-cons t u rest (updated free h v))
-    ∙ ap₂ (λ (x : Tree) (k : Content Tree). part v h || (among t (parts x) || occurs t rest k)) (unread-value free h v (u .source) (q .unread)) (updated-comm free u v q h)
-    ∙ or-swap (part v h) (part u h) (occurs t rest (updated free (updated free h u) v))
-    ∙ ap (λ (x : Tree). part u h || (among t (parts x) || occurs t rest (updated free (updated free h u) v))) (sym (unread-value free h u (v .source) (q .unread′)))
-    ∙ ap (λ (b : Bool). part u h || b) (sym (occurs-cons t v rest (updated free h u)))
-    ∙ sym (occurs-cons t u (v ∷ rest) h)
+  pick-occurs : (t : Tree) {u : Update} {us rest : List Update} → Pick u us rest → (h : Content Tree) → occurs t us h ≡ occurs t (u ∷ rest) h
+  pick-occurs t here h = refl
+  pick-occurs t {u} (later {v = v} {us = us} {rest = rest} e p) h =
+      let q = quiet u v e in
+      let part : Update → Content Tree → Bool = λ w k. among swaps t (parts (valueOf free (w .source) k)) in
+      occurs-cons t v us h
+      ∙ ap (λ (b : Bool). part v h || b) (pick-occurs t p (updated free h v) ∙ occurs-cons t u rest (updated free h v))
+      ∙ ap₂ (λ (x : Tree) (k : Content Tree). part v h || (among swaps t (parts x) || occurs t rest k)) (unread-value free h v (u .source) (q .unread)) (updated-comm free u v q h)
+      ∙ or-swap (part v h) (part u h) (occurs t rest (updated free (updated free h u) v))
+      ∙ ap (λ (x : Tree). part u h || (among swaps t (parts x) || occurs t rest (updated free (updated free h u) v))) (sym (unread-value free h u (v .source) (q .unread′)))
+      ∙ ap (λ (b : Bool). part u h || b) (sym (occurs-cons t v rest (updated free h u)))
+      ∙ sym (occurs-cons t u (v ∷ rest) h)
 
-pub occurs-reordered : (t : Tree) {us new : List Update} → Reordered us new → (h : Content Tree) → occurs t us h ≡ occurs t new h
-occurs-reordered t none h = refl
-occurs-reordered t (next {u = u} {rest = rest} {new = new} p r) h =
-    pick-occurs t p h ∙ occurs-cons t u rest h ∙ ap (λ (b : Bool). among t (parts (valueOf free (u .source) h)) || b) (occurs-reordered t r (updated free h u)) ∙ sym (occurs-cons t u new h)
+  pub occurs-reordered : (t : Tree) {us new : List Update} → Reordered us new → (h : Content Tree) → occurs t us h ≡ occurs t new h
+  occurs-reordered t none h = refl
+  occurs-reordered t (next {u = u} {rest = rest} {new = new} p r) h =
+      pick-occurs t p h ∙ occurs-cons t u rest h ∙ ap (λ (b : Bool). among swaps t (parts (valueOf free (u .source) h)) || b) (occurs-reordered t r (updated free h u)) ∙ sym (occurs-cons t u new h)

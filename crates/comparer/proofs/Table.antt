@@ -7,10 +7,11 @@ use lib.ListN.{length}
 use lib.Dec.{leb}
 use borrow.Author.Tests.{leb-true}
 use Rattle.model.specs.Test.{every}
+use Rattle.model.specs.Tables.{swaps, operatorIn, arityOf, swapsAt}
 use Rattle.model.specs.Update.{Tree, Update, Listed}
 use Rattle.model.specs.Update.Tree.{cell, operator}
 use Rattle.model.specs.Update.Trees.{nil, cons}
-use Rattle.model.specs.Reply.{equal, differs}
+use Rattle.model.specs.Reply.{equal, differs, refused, both}
 use Rattle.reader.specs.Field.{field, byte, u16, u32, i8, i16, times}
 use Rattle.reader.specs.Syntax.{count, counts}
 use Rattle.reader.specs.Grammar as Grammar
@@ -18,24 +19,24 @@ use Rattle.unroller.specs.Run as Run
 use Rattle.unroller.specs.Run.{runProgram}
 use Rattle.unroller.specs.Unroll.{unrolled}
 use Rattle.unroller.specs.Executed.{executed, executeds, execution, writesTo, endOf, originOf}
-use Rattle.terms.specs.Term.{same, sames, parts, partsOf, termCount}
+use Rattle.terms.specs.Term.{turned, alike, alikes, parts, partsOf, termCount}
 use Rattle.comparer.specs.Meaning.{valueOf, valuesOf}
 use Rattle.comparer.specs.Match.{listsReply}
 use Rattle.comparer.specs.Entry.{programsReply, inputReply, allBits}
 use Rattle.comparer.specs.Explain.{explanation}
 use Rattle.comparer.specs.Line.{lineOf}
 use Rattle.comparer.specs.ExplainLine.{explanationLine}
-use Rattle.comparer.specs.Rows.{Row, framed, starred}
-use Rattle.comparer.specs.Claims.{StarredRows, ExplainedRows}
+use Rattle.comparer.specs.Rows.{Row, framed, starred, marked}
+use Rattle.comparer.specs.Claims.{Printed, StarredRows, MarkedRows, ExplainedRows}
 use Rattle.comparer.proofs.Input.{framed-programs}
 
-rows-programs : (any : List ℕ) → map (λ (x : Row). lineOf (programsReply allBits (x .one) (x .other any))) starred ≡ map (λ (x : Row). x .line) starred
-unfolding field byte u16 u32 i8 i16 times Grammar.head Grammar.arity Grammar.operators Grammar.extent Grammar.array Grammar.arrays Grammar.tables Grammar.form Grammar.subscripts Grammar.index Grammar.readOf Grammar.literalOf Grammar.constantOf Grammar.applyOf Grammar.node Grammar.applied Grammar.expression Grammar.statementOf Grammar.step Grammar.loopOf Grammar.guardOf Grammar.items Grammar.itemOf Grammar.nested Grammar.body Grammar.program Grammar.readProgram Run.cellFrom Run.cellAt Run.tree Run.trees count counts Run.readable Run.readables Run.update Run.indices Run.rounds Run.run Run.runs runProgram unrolled same sames parts partsOf termCount valueOf valuesOf listsReply programsReply lineOf
-rows-programs any = refl
+starred-programs : (any : List ℕ) → map (λ (x : Row). lineOf (programsReply allBits (x .one) (x .other any))) starred ≡ map (λ (x : Row). x .line) starred
+unfolding field byte u16 u32 i8 i16 times Grammar.head swaps operatorIn arityOf Grammar.operatorOf Grammar.operators Grammar.extent Grammar.array Grammar.arrays Grammar.tables Grammar.form Grammar.subscripts Grammar.index Grammar.readOf Grammar.literalOf Grammar.constantOf Grammar.applyOf Grammar.node Grammar.applied Grammar.expression Grammar.statementOf Grammar.step Grammar.loopOf Grammar.guardOf Grammar.items Grammar.itemOf Grammar.nested Grammar.body Grammar.program Grammar.readProgram Run.cellFrom Run.cellAt Run.tree Run.trees count counts Run.readable Run.readables Run.update Run.indices Run.rounds Run.run Run.runs runProgram unrolled turned alike alikes parts partsOf termCount valueOf valuesOf listsReply programsReply lineOf
+starred-programs any = refl
 
--- every left side is within its limit
-all-short : every (λ (x : Row). leb (length (x .one)) 16384) starred ≡ true
-all-short = refl
+marked-programs : (any : List ℕ) → map (λ (x : Row). lineOf (programsReply allBits (x .one) (x .other any))) marked ≡ map (λ (x : Row). x .line) marked
+unfolding field byte u16 u32 i8 i16 times Grammar.head swaps operatorIn arityOf Grammar.operatorOf Grammar.operators Grammar.extent Grammar.array Grammar.arrays Grammar.tables Grammar.form Grammar.subscripts Grammar.index Grammar.readOf Grammar.literalOf Grammar.constantOf Grammar.applyOf Grammar.node Grammar.applied Grammar.expression Grammar.statementOf Grammar.step Grammar.loopOf Grammar.guardOf Grammar.items Grammar.itemOf Grammar.nested Grammar.body Grammar.program Grammar.readProgram Run.cellFrom Run.cellAt Run.tree Run.trees count counts Run.readable Run.readables Run.update Run.indices Run.rounds Run.run Run.runs runProgram unrolled turned alike alikes swapsAt parts partsOf termCount valueOf valuesOf listsReply programsReply lineOf
+marked-programs any = refl
 
 framed-all : (any : List ℕ) (rows : List Row) → every (λ (x : Row). leb (length (x .one)) 16384) rows ≡ true
     → map (λ (x : Row). lineOf (inputReply (framed (x .one) (x .other any)))) rows ≡ map (λ (x : Row). lineOf (programsReply allBits (x .one) (x .other any))) rows
@@ -44,19 +45,34 @@ framed-all any (x ∷ xs) e =
     let p = and-eq-true-iff (leb (length (x .one)) 16384) (every (λ (x : Row). leb (length (x .one)) 16384) xs) .0 e in
     ap₂ {C = List (List ℕ)} _∷_ (ap lineOf (framed-programs (x .one) (x .other any) (leb-true (length (x .one)) 16384 (p .0)))) (framed-all any xs (p .1))
 
+-- enough for a row whose left side is within its limit
+printed : (rows : List Row) → every (λ (x : Row). leb (length (x .one)) 16384) rows ≡ true
+    → ((any : List ℕ) → map (λ (x : Row). lineOf (programsReply allBits (x .one) (x .other any))) rows ≡ map (λ (x : Row). x .line) rows) → Printed rows
+printed rows e f any = framed-all any rows e ∙ f any
+
 pub starred-rows : StarredRows
-starred-rows any = framed-all any starred all-short ∙ rows-programs any
+starred-rows = printed starred refl starred-programs
+
+pub marked-rows : MarkedRows
+marked-rows = printed marked refl marked-programs
 
 pub explained-rows : ExplainedRows
-unfolding field byte u16 u32 i8 i16 times Grammar.head Grammar.arity Grammar.operators Grammar.extent Grammar.array Grammar.arrays Grammar.tables Grammar.form Grammar.subscripts Grammar.index Grammar.readOf Grammar.literalOf Grammar.constantOf Grammar.applyOf Grammar.node Grammar.applied Grammar.expression Grammar.statementOf Grammar.step Grammar.loopOf Grammar.guardOf Grammar.items Grammar.itemOf Grammar.nested Grammar.body Grammar.program Grammar.readProgram Run.cellFrom Run.cellAt Run.tree Run.trees count counts Run.readable Run.readables Run.update Run.indices Run.rounds Run.run Run.runs runProgram unrolled same sames parts partsOf termCount valueOf valuesOf listsReply programsReply lineOf explanation originOf endOf writesTo execution executed executeds explanationLine
+unfolding field byte u16 u32 i8 i16 times Grammar.head swaps operatorIn arityOf Grammar.operatorOf Grammar.operators Grammar.extent Grammar.array Grammar.arrays Grammar.tables Grammar.form Grammar.subscripts Grammar.index Grammar.readOf Grammar.literalOf Grammar.constantOf Grammar.applyOf Grammar.node Grammar.applied Grammar.expression Grammar.statementOf Grammar.step Grammar.loopOf Grammar.guardOf Grammar.items Grammar.itemOf Grammar.nested Grammar.body Grammar.program Grammar.readProgram Run.cellFrom Run.cellAt Run.tree Run.trees count counts Run.readable Run.readables Run.update Run.indices Run.rounds Run.run Run.runs runProgram unrolled turned alike alikes parts partsOf termCount valueOf valuesOf listsReply programsReply lineOf explanation originOf endOf writesTo execution executed executeds explanationLine
 explained-rows = refl
 
 -- an in array and an out array of two cells each, and an operator of two arguments
-abbrev listOf : List Update → Listed
-listOf us = record {
-  tables = record { arities = 2 ∷ []; arrays = record { role = 0; extents = 2 ∷ [] } ∷ record { role = 1; extents = 2 ∷ [] } ∷ [] };
+abbrev listWith : ℕ → List Update → Listed
+listWith byte us = record {
+  tables = record { operators = byte ∷ []; arrays = record { role = 0; extents = 2 ∷ [] } ∷ record { role = 1; extents = 2 ∷ [] } ∷ [] };
   updates = us;
 }
+
+abbrev listOf : List Update → Listed
+listOf us = listWith 2 us
+
+-- the same, with an operator that may swap its arguments
+abbrev swapList : List Update → Listed
+swapList us = listWith 0x82 us
 
 abbrev write : ℕ → Tree → Update
 write c x = record { array = 1; target = c; source = x }
@@ -64,18 +80,40 @@ write c x = record { array = 1; target = c; source = x }
 abbrev f : Tree → Tree → Tree
 f x y = operator 0 (cons x (cons y nil))
 
--- f(a, b) and f(b, a) differ: operators have no laws
+-- f(a, b) and f(b, a) differ: an operator without the mark has no laws
 pub arguments-differ : listsReply allBits (listOf (write 1 (f (cell 0 0) (cell 0 1)) ∷ [])) (listOf (write 1 (f (cell 0 1) (cell 0 0)) ∷ [])) ≡ differs 1 1
-unfolding listsReply same sames parts partsOf termCount valueOf valuesOf
+unfolding listsReply turned alike alikes swapsAt swaps parts partsOf termCount valueOf valuesOf
 arguments-differ = refl
 
 -- a read is the value at that moment: out[0] = in[0]; out[1] = out[0]; out[0] = in[1] leaves in[0] in out[1]
 pub read-at-that-moment :
     listsReply allBits (listOf (write 0 (cell 0 0) ∷ write 1 (cell 1 0) ∷ write 0 (cell 0 1) ∷ [])) (listOf (write 0 (cell 0 1) ∷ write 1 (cell 0 0) ∷ [])) ≡ equal 2
-unfolding listsReply same sames parts partsOf termCount valueOf valuesOf
+unfolding listsReply turned alike alikes swapsAt swaps parts partsOf termCount valueOf valuesOf
 read-at-that-moment = refl
 
 -- bits of the mask for arrays that are not compared mean nothing, and a bit that is not set leaves its array out
 pub mask-bits : listsReply 2 (listOf (write 0 (cell 0 0) ∷ [])) (listOf []) ∷ listsReply 65533 (listOf (write 0 (cell 0 0) ∷ [])) (listOf []) ∷ [] ≡ differs 1 0 ∷ equal 0 ∷ []
-unfolding listsReply same sames parts partsOf termCount valueOf valuesOf
+unfolding listsReply turned alike alikes swapsAt swaps parts partsOf termCount valueOf valuesOf
 mask-bits = refl
+
+-- with the mark they are equal, at every depth: f(f(a, b), a) beside f(a, f(b, a))
+pub arguments-swap :
+    listsReply allBits (swapList (write 1 (f (f (cell 0 0) (cell 0 1)) (cell 0 0)) ∷ [])) (swapList (write 1 (f (cell 0 0) (f (cell 0 1) (cell 0 0))) ∷ [])) ≡ equal 2
+unfolding listsReply turned alike alikes swapsAt swaps parts partsOf termCount valueOf valuesOf
+arguments-swap = refl
+
+-- and no more than that: f(f(a, a), b) beside f(f(a, b), a) differ, since no meaning need be associative
+pub no-other-law :
+    listsReply allBits (swapList (write 1 (f (f (cell 0 0) (cell 0 0)) (cell 0 1)) ∷ [])) (swapList (write 1 (f (f (cell 0 0) (cell 0 1)) (cell 0 0)) ∷ [])) ≡ differs 1 1
+unfolding listsReply turned alike alikes swapsAt swaps parts partsOf termCount valueOf valuesOf
+no-other-law = refl
+
+-- the same arity with and without the mark: the tables differ
+pub marks-differ : listsReply allBits (listOf []) (swapList []) ≡ refused both 23 0
+unfolding listsReply turned alike alikes swapsAt swaps parts partsOf termCount valueOf valuesOf
+marks-differ = refl
+
+-- f(a, b), f(b, a), a and b are three terms with the mark, and four without it
+pub counted-once : termCount (swapsAt (0x82 ∷ [])) (f (cell 0 0) (cell 0 1) ∷ f (cell 0 1) (cell 0 0) ∷ []) ∷ termCount (swapsAt (2 ∷ [])) (f (cell 0 0) (cell 0 1) ∷ f (cell 0 1) (cell 0 0) ∷ []) ∷ [] ≡ 3 ∷ 4 ∷ []
+unfolding termCount turned alike alikes swapsAt swaps parts partsOf
+counted-once = refl

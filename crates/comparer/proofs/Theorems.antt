@@ -28,9 +28,9 @@ use Rattle.unroller.proofs.Question21.{run-question21, unrolled-question21}
 use Rattle.unroller.proofs.Runs.{unrolled-last, unrolled-reads}
 use Rattle.model.specs.Update.Tree.{cell}
 use Rattle.terms.specs.Term.{termCount}
-use Rattle.terms.proofs.Same.{same-refl}
+use Rattle.terms.proofs.Alike.{alike-refl}
 use Rattle.comparer.specs.Meaning.{Meaning, Content, after, free}
-use Rattle.comparer.specs.Match.{comparedSize, firstDifference, agreeAt, writtenTerms, matched, sameArray, nonLocal, sameTable, operatorsReply, listsReply}
+use Rattle.comparer.specs.Match.{swapping, comparedSize, firstDifference, agreeAt, writtenTerms, matched, sameArray, nonLocal, sameTable, operatorsReply, listsReply}
 use Rattle.comparer.specs.Entry.{decodedReply, enough, entryReply, wordsReply, sideReply, programsReply}
 use Rattle.comparer.specs.Told.{Shared, Told}
 use Rattle.comparer.specs.Order.{NewOrder, reorder}
@@ -195,10 +195,10 @@ self-matched : (mask : ℕ) (l : Listed) → listsReply mask l l ≡ matched mas
 unfolding listsReply
 self-matched mask l =
     self-tables sameArray same-array 22 (operatorsReply mask l l) 0 (nonLocal (l .tables .arrays))
-    ∙ self-tables eqb (λ x. eq-eqb x x refl) 23 (matched mask l l) 0 (l .tables .arities)
+    ∙ self-tables eqb (λ x. eq-eqb x x refl) 23 (matched mask l l) 0 (l .tables .operators)
 
 pub never-apart-from-itself : NeverApartFromItself
-never-apart-from-itself mask l a e d = go (leb (termCount (writtenTerms l l)) 4096) refl (first-difference mask (agreeAt l l) whole (l .tables .arrays) 0)
+never-apart-from-itself mask l a e d = go (leb (termCount (swapping l) (writtenTerms l l)) 4096) refl (first-difference mask (agreeAt l l) whole (l .tables .arrays) 0)
   where
     whole : Reply
     whole = equal (comparedSize mask 0 (l .tables .arrays))
@@ -210,9 +210,9 @@ never-apart-from-itself mask l a e d = go (leb (termCount (writtenTerms l l)) 40
     is = sym (self-matched mask l) ∙ d
 
     agrees : (b c : ℕ) → agreeAt l l b c ≡ true
-    agrees b c = same-refl (after free (l .updates) cell b c)
+    agrees b c = alike-refl (swapping l) (after free (l .updates) cell b c)
 
-    go : (few : Bool) → leb (termCount (writtenTerms l l)) 4096 ≡ few → ElementNone (l .tables .arrays) 0 mask (agreeAt l l) whole found ⊎ ElementAt (l .tables .arrays) 0 mask (agreeAt l l) found → ⊥
+    go : (few : Bool) → leb (termCount (swapping l) (writtenTerms l l)) 4096 ≡ few → ElementNone (l .tables .arrays) 0 mask (agreeAt l l) whole found ⊎ ElementAt (l .tables .arrays) 0 mask (agreeAt l l) found → ⊥
     go false f p = let z : _≡_ {A = Reply} (refused both 24 0) (differs a e) = rw f at is in let y : _≡_ {A = ℕ} 0 1 = cc in omega arith
     go true f (inl p) = let z : found ≡ differs a e = rw f at is in let y : _≡_ {A = ℕ} 0 1 = cc (p .is) in omega arith
     go true f (inr p) = false≢true (sym (p .differ) ∙ agrees (p .a) (p .e))

@@ -55,7 +55,7 @@ InputAnswered =
     (long : Bool) (s : List ℕ) (r : Reply) → replySays r ≡ entryReply long (inputReply s) → isRefused (replySays r) ≡ false
     → ToldOf allBits (λ p l. unrolled p ≡ ok l) (leftIn s) (rightIn s) (replySays r)
 
--- An "equal" of `compare_input` implies equal values for every content and meaning.
+-- An "equal" of `compare_input` implies equal values for every content and every meaning that respects the marks.
 abbrev pub EqualAnswered : Type 1
 EqualAnswered =
     (long : Bool) (s : List ℕ) (r : Reply) (n : ℕ) → replySays r ≡ entryReply long (inputReply s) → r ≡ Equal n → SameValues (leftIn s) (rightIn s) n

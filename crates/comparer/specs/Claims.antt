@@ -15,6 +15,7 @@ use Rattle.model.specs.Reply.{Reply, equal, isRefused, Side, left, right, both}
 use Rattle.reader.specs.Field.{got}
 use Rattle.reader.specs.Syntax.{Form, Program}
 use Rattle.reader.specs.Grammar.{readProgram}
+use Rattle.terms.specs.Term.{alike}
 use Rattle.unroller.specs.Run.{ok, valueAt, signed, fits16, indices, runProgram}
 use Rattle.unroller.specs.Allowed.{fits32, allowed}
 use Rattle.unroller.specs.Layout.{layout}
@@ -24,7 +25,7 @@ use Rattle.unroller.specs.Fits.{narrow}
 use Rattle.unroller.specs.Asking as Asking
 use Rattle.unroller.specs.Executed.{Origin}
 use Rattle.unroller.specs.Traced.{Traced, WrittenAt}
-use Rattle.comparer.specs.Meaning.{Meaning, Content, valueOf, after, free}
+use Rattle.comparer.specs.Meaning.{Meaning, Respects, Content, valueOf, after, free}
 use Rattle.comparer.specs.Match.{comparedSize, listsReply}
 use Rattle.comparer.specs.Entry.{entryReply, wordsReply, sideReply, programsReply, allBits, leftIn, rightIn, inputReply}
 use Rattle.comparer.specs.Explain as Explain
@@ -33,9 +34,10 @@ use Rattle.comparer.specs.Line.{lineOf}
 use Rattle.comparer.specs.ExplainLine.{explanationLine}
 use Rattle.comparer.specs.Told.{Compared, Shared, Agree, Told}
 use Rattle.comparer.specs.Order.{NewOrder, reorder}
-use Rattle.comparer.specs.Rows.{Row, framed, starred, ExplainedRow, explainedPairs}
+use Rattle.comparer.specs.Rows.{Row, framed, starred, marked, ExplainedRow, explainedPairs}
 
--- Demand 2 for lists: of two allowed lists, a reply that is no refusal says exactly what every content and meaning say.
+-- Demand 2 for lists: of two allowed lists, a reply that is no refusal says exactly what every content and every meaning
+-- that respects the marks say.
 abbrev pub Demand2Lists : Type 1
 Demand2Lists = (mask : ℕ) (l r : Listed) → allowed l ≡ true → allowed r ≡ true → isRefused (listsReply mask l r) ≡ false → Told mask l r (listsReply mask l r)
 
@@ -132,7 +134,7 @@ abbrev pub InputCut : Type 0
 InputCut = (s : List ℕ) → inputReply (take 32771 s) ≡ inputReply s
 
 -- For readers: an "equal" to framed input means that the two programs in it run, and leave the same value in each compared
--- element for every starting content and every meaning, with no other hypothesis.
+-- element for every starting content and every meaning that respects the marks, with no other hypothesis.
 pub record SameValues (one other : List ℕ) (n : ℕ) : Type 1 where
   pub l : Listed
   pub r : Listed
@@ -144,15 +146,29 @@ pub record SameValues (one other : List ℕ) (n : ℕ) : Type 1 where
 abbrev pub EqualInput : Type 1
 EqualInput = (s : List ℕ) (n : ℕ) → inputReply s ≡ equal n → SameValues (leftIn s) (rightIn s) n
 
+-- framed input of each row has the row's line
+abbrev pub Printed : List Row → Type 0
+Printed rows = (any : List ℕ) → map (λ (x : Row). lineOf (inputReply (framed (x .one) (x .other any)))) rows ≡ map (λ (x : Row). x .line) rows
+
 -- The ten starred rows, each with its line as docs/FORMAT.md prints it, for any right-hand bytes where that page says "any".
 abbrev pub StarredRows : Type 0
-StarredRows = (any : List ℕ) → map (λ (x : Row). lineOf (inputReply (framed (x .one) (x .other any)))) starred ≡ map (λ (x : Row). x .line) starred
+StarredRows = Printed starred
+
+-- The rows of program M, whose operator is marked, the same way.
+abbrev pub MarkedRows : Type 0
+MarkedRows = Printed marked
 
 -- The meaning of a term is the meaning of its expression: a value in the free meaning stands for all meanings.
 abbrev pub FreeStandsForAll : Type 1
 FreeStandsForAll =
     (S : Type 0) (m : Meaning S) (h : Content S) (t : Tree) (σ : Content Tree)
     → valueOf m (valueOf free t σ) h ≡ valueOf m t (λ a c. valueOf m (σ a c) h)
+
+-- Terms are alike exactly where every content, and every meaning that respects the marks, give them the same value.
+abbrev pub AlikeExactly : Type 1
+AlikeExactly =
+    (swaps : ℕ → Bool) (t u : Tree)
+    → (alike swaps t u ≡ true) ↔ ((S : Type 0) (m : Meaning S) → Respects swaps m → (h : Content S) → valueOf m t h ≡ valueOf m u h)
 
 -- A list beside itself is never told apart.
 abbrev pub NeverApartFromItself : Type 0

@@ -9,7 +9,7 @@ use Rattle.model.specs.Tables.{Tables, cells, arrayAt}
 use Rattle.model.specs.Update.{Tree}
 use Rattle.model.specs.Update.Tree.{cell}
 use Rattle.model.specs.Reply as model
-use Rattle.terms.specs.Term.{same}
+use Rattle.terms.specs.Term.{alike}
 use Rattle.terms.specs.Stored.{Stored}
 use Rattle.unroller.specs.Allowed.{allowedTables}
 use Rattle.unroller.specs.Stands.{HeaderAt}
@@ -46,34 +46,34 @@ pub record Sums (list table : List ℕ) : Type 0 where
   pub next : (a : ℕ) → a < 16 → getD table (a + 1) 0 ≡ getD table a 0 + sizeAt list a
 
 -- ---- cells
--- x and y show the same term, or not
+-- x and y show terms that are alike, or not
 unfoldable pub Agrees : List ℕ → ℕ → ℕ → ℕ → ℕ → Bool → Type 0
 Agrees m x y a c b =
-    (count : ℕ) (ts : List Tree) (t u : Tree) → Stored m count ts → Shows ts x (cell a c) t → Shows ts y (cell a c) u → b ≡ same t u
+    (swaps : ℕ → Bool) (count : ℕ) (ts : List Tree) (t u : Tree) → Stored swaps m count ts → Shows swaps ts x (cell a c) t → Shows swaps ts y (cell a c) u → b ≡ alike swaps t u
 
 -- the contents of array a on both sides, in one store: on the left from slot p on, on the right from slot q on
-pub record Sides (left right m : List ℕ) (p q a size : ℕ) (l r : Content Tree) : Type 0 where
+pub record Sides (swaps : ℕ → Bool) (left right m : List ℕ) (p q a size : ℕ) (l r : Content Tree) : Type 0 where
   pub count : ℕ
   pub ts : List Tree
-  pub stored : Stored m count ts
+  pub stored : Stored swaps m count ts
   pub left-room : p + size ≤ length left
   pub right-room : q + size ≤ length right
-  pub left-shows : (c : ℕ) → c < size → Shows ts (getD left (p + c) 0) (cell a c) (l a c)
-  pub right-shows : (c : ℕ) → c < size → Shows ts (getD right (q + c) 0) (cell a c) (r a c)
+  pub left-shows : (c : ℕ) → c < size → Shows swaps ts (getD left (p + c) 0) (cell a c) (l a c)
+  pub right-shows : (c : ℕ) → c < size → Shows swaps ts (getD right (q + c) 0) (cell a c) (r a c)
 
-abbrev pub agree : Content Tree → Content Tree → ℕ → ℕ → Bool
-agree l r a c = same (l a c) (r a c)
+abbrev pub agree : (ℕ → Bool) → Content Tree → Content Tree → ℕ → ℕ → Bool
+agree swaps l r a c = alike swaps (l a c) (r a c)
 
 -- d is the first cell from c on at which the sides differ; `size` or more: there is none
 unfoldable pub FirstCell : List ℕ → List ℕ → List ℕ → ℕ → ℕ → ℕ → ℕ → ℕ → ℕ → Type 0
 FirstCell left right m p q a size c d =
-    (l r : Content Tree) → Sides left right m p q a size l r → (found : ℕ → model.Reply) (none : model.Reply)
-    → firstCell (size - c) c (agree l r a) found none ≡ cond (ltb d size) (found d) none
+    (swaps : ℕ → Bool) (l r : Content Tree) → Sides swaps left right m p q a size l r → (found : ℕ → model.Reply) (none : model.Reply)
+    → firstCell (size - c) c (agree swaps l r a) found none ≡ cond (ltb d size) (found d) none
 
 -- the reply on the arrays from a on, where `sum` elements were compared before
 unfoldable pub FirstArray : List ℕ → ℕ → List ℕ → List ℕ → List ℕ → List ℕ → List ℕ → ℕ → ℕ → Reply → Type 0
 FirstArray list mask lefts rights left right m a sum reply =
-    (t : Tables) (l r : Content Tree) → HeaderAt list t → allowedTables t ≡ true
+    (swaps : ℕ → Bool) (t : Tables) (l r : Content Tree) → HeaderAt list t → allowedTables t ≡ true
     → ((b : ℕ) → b < length (t .arrays) → compared mask b (arrayAt (t .arrays) b) ≡ true
-    → Sides left right m (getD lefts b 0) (getD rights b 0) b (cells (arrayAt (t .arrays) b .extents)) l r)
-    → replySays reply ≡ firstDifference mask a (drop a (t .arrays)) (agree l r) (model.equal (sum + comparedSize mask a (drop a (t .arrays))))
+    → Sides swaps left right m (getD lefts b 0) (getD rights b 0) b (cells (arrayAt (t .arrays) b .extents)) l r)
+    → replySays reply ≡ firstDifference mask a (drop a (t .arrays)) (agree swaps l r) (model.equal (sum + comparedSize mask a (drop a (t .arrays))))

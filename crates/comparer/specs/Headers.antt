@@ -55,11 +55,11 @@ ArraysTell left right r =
     (x y : model.Tables) → Heads left x → Heads right y → (agreed : Reply) → sameTable sameArray 22 agreed 0 (nonLocal (x .arrays)) (nonLocal (y .arrays)) ≡ answered 22 agreed r
 
 unfoldable pub OperatorsTell : List ℕ → List ℕ → Table → Type 0
-OperatorsTell left right r = (x y : model.Tables) → Heads left x → Heads right y → (agreed : Reply) → sameTable eqb 23 agreed 0 (x .arities) (y .arities) ≡ answered 23 agreed r
+OperatorsTell left right r = (x y : model.Tables) → Heads left x → Heads right y → (agreed : Reply) → sameTable eqb 23 agreed 0 (x .operators) (y .operators) ≡ answered 23 agreed r
 
 -- 22, then 23
 abbrev pub tablesReply : Reply → model.Tables → model.Tables → Reply
-tablesReply agreed x y = sameTable sameArray 22 (sameTable eqb 23 agreed 0 (x .arities) (y .arities)) 0 (nonLocal (x .arrays)) (nonLocal (y .arrays))
+tablesReply agreed x y = sameTable sameArray 22 (sameTable eqb 23 agreed 0 (x .operators) (y .operators)) 0 (nonLocal (x .arrays)) (nonLocal (y .arrays))
 
 abbrev pub toldReply : Reply → Tables → Reply
 toldReply agreed tables.Same = agreed

@@ -3,11 +3,11 @@ use Prim.Native.Nat.{ℕ, zero, suc, _+_, _/_, _%_, _^_}
 use mathlib.Core.List.{List, [], _∷_, _++_}
 use mathlib.Core.Bool.{Bool, true, false, _&&_, _||_, cond}
 use lib.Dec.{leb, eqb}
-use Rattle.model.specs.Tables.{Array, Tables, cells, local}
+use Rattle.model.specs.Tables.{Array, Tables, cells, local, swapsAt}
 use Rattle.model.specs.Update.{Tree, Update, Listed}
 use Rattle.model.specs.Update.Tree.{cell}
 use Rattle.model.specs.Reply.{Reply, equal, differs, refused, both}
-use Rattle.terms.specs.Term.{same, termCount}
+use Rattle.terms.specs.Term.{alike, termCount}
 use Rattle.comparer.specs.Meaning.{Content, after, free, values}
 
 abbrev pub bit : ℕ → ℕ → Bool
@@ -34,18 +34,22 @@ firstDifference mask a (x ∷ xs) agree otherwise =
     let rest = firstDifference mask (suc a) xs agree otherwise in
     cond (compared mask a x) (firstCell (cells (x .extents)) 0 (agree a) (differs a) rest) rest
 
--- both lists leave the same term in this element; started from `cell`, each cell holds its own starting term
+-- the operators of the list that may swap their arguments
+abbrev pub swapping : Listed → ℕ → Bool
+swapping l = swapsAt (l .tables .operators)
+
+-- both lists leave terms in this element that are alike; started from `cell`, each cell holds its own starting term
 abbrev pub agreeAt : Listed → Listed → ℕ → ℕ → Bool
-agreeAt l r a c = same (after free (l .updates) cell a c) (after free (r .updates) cell a c)
+agreeAt l r a c = alike (swapping l) (after free (l .updates) cell a c) (after free (r .updates) cell a c)
 
 -- the terms written on either side
 abbrev pub writtenTerms : Listed → Listed → List Tree
 writtenTerms l r = values (l .updates) cell ++ values (r .updates) cell
 
--- At most 4,096 terms? 24. Then the first difference, or the number of elements compared.
+-- At most 4,096 terms, those that are alike counted once? 24. Then the first difference, or the number of elements compared.
 abbrev pub matched : ℕ → Listed → Listed → Reply
 matched mask l r =
-    cond (leb (termCount (writtenTerms l r)) 4096)
+    cond (leb (termCount (swapping l) (writtenTerms l r)) 4096)
     (firstDifference mask 0 (l .tables .arrays) (agreeAt l r) (equal (comparedSize mask 0 (l .tables .arrays))))
     (refused both 24 0)
 
@@ -63,16 +67,16 @@ nonLocal [] = []
 nonLocal (x ∷ xs) = let r = nonLocal xs in cond (local x) r (x ∷ r)
 
 -- a question of two tables: refused at the first number, from k on, at which they differ, else `agreed`
-module _ {A : Type 0} (alike : A → A → Bool) (question : ℕ) (agreed : Reply) where
+module _ {A : Type 0} (equals : A → A → Bool) (question : ℕ) (agreed : Reply) where
   abbrev pub sameTable : ℕ → List A → List A → Reply
   sameTable k [] [] = agreed
   sameTable k [] (y ∷ ys) = refused both question k
   sameTable k (x ∷ xs) [] = refused both question k
-  sameTable k (x ∷ xs) (y ∷ ys) = let r = sameTable (suc k) xs ys in cond (alike x y) r (refused both question k)
+  sameTable k (x ∷ xs) (y ∷ ys) = let r = sameTable (suc k) xs ys in cond (equals x y) r (refused both question k)
 
--- Same operator tables? 23
+-- Same operator tables, marks included? 23
 abbrev pub operatorsReply : ℕ → Listed → Listed → Reply
-operatorsReply mask l r = let match = matched mask l r in sameTable eqb 23 match 0 (l .tables .arities) (r .tables .arities)
+operatorsReply mask l r = let match = matched mask l r in sameTable eqb 23 match 0 (l .tables .operators) (r .tables .operators)
 
 -- Same non-local arrays? 22
 unfoldable pub listsReply : ℕ → Listed → Listed → Reply

@@ -1,4 +1,4 @@
--- The contract of the match: two lists that stand in their slices, with tables that agree, and cleared work memory.
+-- The contract of the match: two lists that stand in their slices, with tables that agree, marks included, and cleared work memory.
 use Prim.Native.Nat.{ℕ, _≤_}
 use mathlib.Core.Path.{_≡_}
 use mathlib.Core.List.{List}
@@ -15,4 +15,5 @@ use Rattle.comparer.specs.declared.reply.Reply.{Reply}
 unfoldable pub Matches : List ℕ → List ℕ → ℕ → List ℕ → List ℕ → Reply → Type 0
 Matches left right mask cells terms reply =
     (l r : Listed) → Stands left l → Stands right r → allowed l ≡ true → allowed r ≡ true → nonLocal (l .tables .arrays) ≡ nonLocal (r .tables .arrays)
+    → l .tables .operators ≡ r .tables .operators
     → cellWords ≤ length cells → termWords ≤ length terms → cells ≡ cleared cells → terms ≡ cleared terms → replySays reply ≡ matched mask l r

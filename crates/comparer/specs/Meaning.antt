@@ -1,7 +1,8 @@
 -- Meanings, contents, and what a list of updates leaves (docs/FORMAT.md, "The match" and "The reordering rule").
 use Prim.Native.Nat.{ℕ}
+use mathlib.Core.Path.{_≡_}
 use mathlib.Core.List.{List, [], _∷_}
-use mathlib.Core.Bool.{Bool, cond}
+use mathlib.Core.Bool.{Bool, true, cond}
 use lib.IntN.{ℤ}
 use Rattle.model.specs.Update.{Tree, Trees, Update, writes}
 use Rattle.model.specs.Update.Tree.{cell, number, constant, operator}
@@ -12,6 +13,10 @@ pub record Meaning (S : Type 0) : Type 0 where
   pub operate : ℕ → List S → S
   pub literal : ℤ → S
   pub named : ℕ → S
+
+-- each operator that may swap gives the same result for both orders of its arguments
+abbrev pub Respects : {S : Type 0} → (ℕ → Bool) → Meaning S → Type 0
+Respects {S} swaps m = (o : ℕ) → swaps o ≡ true → (x y : S) → m .operate o (x ∷ y ∷ []) ≡ m .operate o (y ∷ x ∷ [])
 
 -- what each cell of each array holds
 abbrev pub Content : Type 0 → Type 0

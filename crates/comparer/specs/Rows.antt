@@ -1,4 +1,4 @@
--- The ten starred rows of docs/FORMAT.md, "Known pairs", and some of these pairs explained.
+-- The known pairs of docs/FORMAT.md: the ten starred rows, those with marks, and some pairs explained.
 use Prim.Native.Nat.{ℕ, _/_, _%_}
 use mathlib.Core.List.{List, [], _∷_, _++_}
 use lib.ListN.{length, set}
@@ -40,6 +40,25 @@ starred =
     ∷ rowAny (set L 18 2) "refused left 16 22"
     ∷ row L (set L 28 1) "refused right 17 22"
     ∷ rowAny (set L 23 0) "refused left 13 23" ∷ []
+
+-- program M, of version 2: B[0] = f(f(A[0], A[1]), A[2]), where the arguments of f may swap
+abbrev pub M : List ℕ
+M =
+    0x41 ∷ 0x4C ∷ 0x50 ∷ 0x02 ∷ 0x00 ∷ 0x01 ∷ 0x82 ∷ 0x02 ∷ 0x00 ∷ 0x01 ∷ 0x03 ∷ 0x00 ∷ 0x01 ∷ 0x01 ∷ 0x01 ∷ 0x00 ∷ 0x01 ∷ 0x01 ∷ 0x00
+    ∷ 0x00 ∷ 0x11 ∷ 0x00 ∷ 0x11 ∷ 0x00 ∷ 0x10 ∷ 0x00 ∷ 0x00 ∷ 0x00 ∷ 0x10 ∷ 0x00 ∷ 0x01 ∷ 0x00 ∷ 0x10 ∷ 0x00 ∷ 0x02 ∷ 0x00 ∷ 0x00 ∷ []
+
+-- known pairs with and without the mark, in both versions
+abbrev pub marked : List Row
+marked =
+    row M (set (set M 26 1) 30 0) "equal 1"
+    ∷ row M (set (set (set (set M 22 0x10) 24 2) 26 0x11) 34 0) "equal 1"
+    ∷ row M (set (set (set M 22 0x10) 24 0) 26 0x11) "differs 1 0"
+    ∷ row (set M 6 2) (set (set (set M 6 2) 26 1) 30 0) "differs 1 0"
+    ∷ row (set (set M 3 1) 6 2) (set M 6 2) "equal 1"
+    ∷ row (set M 6 2) M "refused both 23 0"
+    ∷ rowAny (set M 3 1) "refused left 6 6"
+    ∷ rowAny (set M 6 0x83) "refused left 6 6"
+    ∷ rowAny (set M 3 3) "refused left 5 3" ∷ []
 
 -- a pair, the side that is asked about, and the line of its explanation, with its end
 pub record ExplainedRow : Type 0 where

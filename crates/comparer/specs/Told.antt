@@ -1,4 +1,4 @@
--- What a reply that is no refusal says (demand 2), over every starting content and every meaning.
+-- What a reply that is no refusal says (demand 2), over every starting content and every meaning that respects the marks.
 use Prim.Native.Nat.{ℕ, _<_}
 use mathlib.Core.Path.{_≡_}
 use mathlib.Core.Logic.{_⊎_, _↔_}
@@ -6,8 +6,8 @@ use mathlib.Core.Bool.{true, false, _&&_}
 use Rattle.model.specs.Tables.{arrayAt, local, inside}
 use Rattle.model.specs.Update.{Listed}
 use Rattle.model.specs.Reply.{Reply, equal, differs}
-use Rattle.comparer.specs.Meaning.{Meaning, Content, after}
-use Rattle.comparer.specs.Match.{compared, comparedSize}
+use Rattle.comparer.specs.Meaning.{Meaning, Respects, Content, after}
+use Rattle.comparer.specs.Match.{compared, comparedSize, swapping}
 
 -- cell e of array a is compared
 abbrev pub Compared : ℕ → Listed → ℕ → ℕ → Type 0
@@ -17,14 +17,16 @@ Compared mask l a e = (compared mask a (arrayAt (l .tables .arrays) a) && inside
 abbrev pub Shared : {S : Type 0} → Listed → Content S → Content S → Type 0
 Shared l h k = (a c : ℕ) → local (arrayAt (l .tables .arrays) a) ≡ false → h a c ≡ k a c
 
--- for every starting content and every meaning both sides leave the same value in this element
+-- For every starting content, and every meaning in which each operator that may swap gives the same result for both orders of its arguments,
+-- both sides leave the same value in this element.
 abbrev pub Agree : Listed → Listed → ℕ → ℕ → Type 1
-Agree l r a e = (S : Type 0) (m : Meaning S) (h k : Content S) → Shared l h k → after m (l .updates) h a e ≡ after m (r .updates) k a e
+Agree l r a e = (S : Type 0) (m : Meaning S) → Respects (swapping l) m → (h k : Content S) → Shared l h k → after m (l .updates) h a e ≡ after m (r .updates) k a e
 
--- some content and meaning tell the sides apart at this element
+-- some content, and some meaning of that kind, tell the sides apart at this element
 pub record Apart (l r : Listed) (a e : ℕ) : Type 1 where
   pub S : Type 0
   pub meaning : Meaning S
+  pub respects : Respects (swapping l) meaning
   pub one : Content S
   pub other : Content S
   pub shared : Shared l one other
@@ -34,7 +36,7 @@ pub record Apart (l r : Listed) (a e : ℕ) : Type 1 where
 abbrev pub Earlier : ℕ → ℕ → ℕ → ℕ → Type 0
 Earlier b d a e = (b < a) ⊎ ((b ≡ a) × (d < e))
 
--- the first compared element that some content and meaning tell apart
+-- the first compared element that some content and meaning of that kind tell apart
 abbrev pub FirstApart : ℕ → Listed → Listed → ℕ → ℕ → Type 1
 FirstApart mask l r a e = Compared mask l a e × Apart l r a e × ((b d : ℕ) → Compared mask l b d → Earlier b d a e → Agree l r b d)
 

@@ -1,5 +1,6 @@
 // Works out the updates of a list: each value as a term of the store.
 use model::numbers::wide;
+use model::operator::swaps;
 use model::sizes::CELL_WORDS;
 use model::sizes::HEADER_WORDS;
 use model::sizes::MOST_TERMS;
@@ -7,8 +8,10 @@ use terms::Kept;
 ghost use mathlib.Core.Path.{_≡_};
 ghost use Prim.Native.Nat.{_+_, _≤_, _<_};
 ghost use lib.ListN.{length};
-ghost use Rattle.comparer.specs.Work.{Finds, Picks, Arity, Reads, Operates, Works, WorksLeaf, WorksAll, Applies};
 ghost use Rattle.model.specs.Memory.{headerWords};
+ghost use mathlib.Core.Bool.{true};
+ghost use Rattle.terms.specs.Stored.{sorted, Puts};
+ghost use Rattle.comparer.specs.Work.{Finds, Picks, Byte, Arity, Reads, Operates, Works, WorksLeaf, WorksAll, Applies};
 
 // The place past a tree, the number of terms, and the id plus 1. A number above 4,096: there is no room.
 struct Step {
@@ -106,20 +109,40 @@ fn leaf(
     }
 }
 
-// The header's word for this operator.
-fn arity(list: &[u32], operator: u32) -> usize
+// The header's word for this operator, which is its byte; 0 where there is none.
+fn byte_of(list: &[u32], operator: u32) -> usize
     requires { ⌜ headerWords ≤ length (now list) ⌝ }
-    ensures { λ r. ⌜ Arity (now (list .entry)) operator r ⌝ }
+    ensures { λ r. ⌜ Byte (now (list .entry)) operator r ⌝ }
 {
     let o = wide(operator);
     if o >= 16 {
         return 0;
     }
-    let n = wide(list[1 + o]);
-    if n > 4 {
-        return 0;
+    wide(list[1 + o])
+}
+
+// The arity of an operator of this byte, 0 where that is no operator's. A byte without a mark passes one test: asking for the mark
+// first would cost each operator another.
+fn arity(byte: usize) -> usize
+    ensures { λ r. ⌜ Arity byte r ⌝ }
+{
+    if byte <= 4 {
+        return byte;
     }
-    n
+    if swaps(byte) {
+        return 2;
+    }
+    0
+}
+
+// The ids as they are stored where the arguments may swap: the smaller of the two first.
+fn in_order(ids: [u32; 4]) -> [u32; 4]
+    ensures { λ r. ⌜ r ≡ sorted true ids ⌝ }
+{
+    if ids[1] < ids[0] {
+        return [ids[1], ids[0], ids[2], ids[3]];
+    }
+    ids
 }
 
 fn pick(here: bool, id: u32, other: u32) -> u32
@@ -128,20 +151,30 @@ fn pick(here: bool, id: u32, other: u32) -> u32
     if here { id } else { other }
 }
 
-// The operator over its arguments, where they had room.
-fn operate(terms: &mut [u32], operator: u32, row: Row) -> Step
-    ensures { λ r. ⌜ Operates (now (terms .entry)) operator (row .at) (row .count) (row .ids) (r .at) (r .count) (r .id) (now (terms .exit)) ⌝ }
+// The operator over its arguments in this order.
+fn put_operator(terms: &mut [u32], operator: u32, at: usize, count: u32, ids: [u32; 4]) -> Step
+    ensures { λ r. ⌜ (r .at ≡ at) × Puts (now (terms .entry)) count 17 operator ids (r .count) (r .id) (now (terms .exit)) ⌝ }
+{
+    let p = terms::put(terms, count, 17, operator, ids);
+    Step {
+        at,
+        count: p.count,
+        id: p.id,
+    }
+}
+
+// The operator over its arguments, where they had room. A call of its own for those that may swap: no other waits for the order.
+fn operate(terms: &mut [u32], operator: u32, byte: usize, row: Row) -> Step
+    ensures { λ r. ⌜ Operates byte (now (terms .entry)) operator (row .at) (row .count) (row .ids) (r .at) (r .count) (r .id) (now (terms .exit)) ⌝ }
 {
     if row.count > MOST_TERMS {
         return no_room();
     }
     let ids = row.ids;
-    let p = terms::put(terms, row.count, 17, operator, ids);
-    Step {
-        at: row.at,
-        count: p.count,
-        id: p.id,
+    if swaps(byte) {
+        return put_operator(terms, operator, row.at, row.count, in_order(ids));
     }
+    put_operator(terms, operator, row.at, row.count, ids)
 }
 
 // The tree at `at`, whose operators nest at most `left` deep.
@@ -167,7 +200,8 @@ fn node(
         return no_room();
     }
     let o = list[at + 1];
-    let n = arity(list, o);
+    let byte = byte_of(list, o);
+    let n = arity(byte);
     let row = args(
         list,
         at + 3,
@@ -180,7 +214,7 @@ fn node(
         n,
         [0; 4],
     );
-    operate(terms, o, row)
+    operate(terms, o, byte, row)
 }
 
 // The arguments from number k on, of n; `ids` has those before. They are kept as four numbers: the processor waits for an array that

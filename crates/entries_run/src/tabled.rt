@@ -64,7 +64,7 @@ fn say_row(row: &FlatTables) {
 fn packed(tables: &FlatTables) -> Tables {
     Tables {
         operators: tables[0],
-        arities: bytes(tables, 1),
+        bytes: bytes(tables, 1),
         arrays: tables[17],
         roles: bytes(tables, 18),
         dimensions: bytes(tables, 34),

@@ -1,4 +1,5 @@
 pub mod Abs
 pub mod Up
+pub mod Operators
 mod Signs
 mod Zeros

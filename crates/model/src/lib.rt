@@ -2,4 +2,5 @@
 pub mod byte;
 pub mod memory;
 pub mod numbers;
+pub mod operator;
 pub mod sizes;

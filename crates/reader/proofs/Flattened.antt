@@ -6,11 +6,11 @@ use native.Mathlib.Omega.{arith}
 use mathlib.Core.List.{List, [], _∷_, _++_, append-nil, append-assoc}
 use lib.ListN.{length, getD, set, drop, length-append, List·getD-map, List·getD-eq-default}
 use lib.Seq.{sets, sets-eq, getD-at, drop-length}
-use Rattle.model.specs.Tables.{Tables, arrayAt}
+use Rattle.model.specs.Tables.{Tables, arrayAt, swaps, arityOf, arityAt}
 use Rattle.reader.specs.Entries.{cut, arrayOf, arraysOf, unpacked, capped, viewed, tablesIn, flattened}
 use Rattle.reader.specs.declared.tables.Tables.{Tables as Packed}
 use Rattle.reader.proofs.Numbers.{by-order}
-use Rattle.reader.proofs.Packing.{length-cut, getD-cut, operators-are, arrays-are, arity-in, arity-out, role-in, role-out, dimensions-in, dimensions-out, dimensions-few, extent-in, extent-none}
+use Rattle.reader.proofs.Packing.{length-cut, getD-cut, operators-are, arrays-are, operator-in, operator-out, role-in, role-out, dimensions-in, dimensions-out, dimensions-few, extent-in, extent-none}
 use Rattle.reader.proofs.Stores.{cut-mid}
 
 -- ---- writing
@@ -76,7 +76,7 @@ sets-whole l vs e =
 -- the parts of the 115 numbers
 module _ (T : Packed) where
   abbrev A : List ℕ
-  A = cut 16 0 (T .arities)
+  A = cut 16 0 (T .bytes)
 
   abbrev R : List ℕ
   R = cut 16 0 (T .roles)
@@ -93,7 +93,7 @@ module _ (T : Packed) where
   length-flattened : length (flattened T) ≡ 115
   unfolding flattened
   length-flattened =
-      let a = length-cut 16 0 (T .arities) in
+      let a = length-cut 16 0 (T .bytes) in
       let r = length-cut 16 0 (T .roles) in
       let d = length-cut 16 0 (T .dimensions) in
       let e = length-cut 48 0 (T .extents) in
@@ -103,7 +103,7 @@ module _ (T : Packed) where
   pub flat-put : (l : List ℕ) → length l ≡ 115 → sets (sets (sets (sets (set (sets (set l 0 (T .operators)) 1 A) 17 (T .arrays)) 18 R) 34 D) 50 E) 98 B ≡ flattened T
   unfolding flattened
   flat-put l h =
-      let a : 1 + length A ≡ 17 = omega (arith, length-cut 16 0 (T .arities)) in
+      let a : 1 + length A ≡ 17 = omega (arith, length-cut 16 0 (T .bytes)) in
       let r : 18 + length R ≡ 34 = omega (arith, length-cut 16 0 (T .roles)) in
       let d : 34 + length D ≡ 50 = omega (arith, length-cut 16 0 (T .dimensions)) in
       let e : 50 + length E ≡ 98 = omega (arith, length-cut 48 0 (T .extents)) in
@@ -122,13 +122,13 @@ module _ (T : Packed) where
   unfolding flattened
   operators-back = refl
 
-  arities-back : cut 16 1 (flattened T) ≡ A
+  bytes-back : cut 16 1 (flattened T) ≡ A
   unfolding flattened
-  arities-back = cut-mid 16 1 (T .operators ∷ []) A _ (length-cut 16 0 (T .arities)) refl
+  bytes-back = cut-mid 16 1 (T .operators ∷ []) A _ (length-cut 16 0 (T .bytes)) refl
 
   arrays-back : getD (flattened T) 17 0 ≡ T .arrays
   unfolding flattened
-  arrays-back = getD-at (T .operators ∷ A) (T .arrays) _ 0 17 (ap suc (length-cut 16 0 (T .arities)))
+  arrays-back = getD-at (T .operators ∷ A) (T .arrays) _ 0 17 (ap suc (length-cut 16 0 (T .bytes)))
 
   abbrev to-roles : List ℕ
   to-roles = T .operators ∷ (A ++ (T .arrays ∷ []))
@@ -137,7 +137,7 @@ module _ (T : Packed) where
   unfolding flattened
   roles-back =
       let q = D ++ (E ++ B) in
-      let a = length-cut 16 0 (T .arities) in
+      let a = length-cut 16 0 (T .bytes) in
       let e : T .operators ∷ (A ++ (T .arrays ∷ (R ++ q))) ≡ to-roles ++ (R ++ q) = simp append-assoc in
       ap (cut 16 18) e ∙ cut-mid 16 18 to-roles R q (length-cut 16 0 (T .roles)) (simp length-append (omega arith))
 
@@ -145,7 +145,7 @@ module _ (T : Packed) where
   unfolding flattened
   dimensions-back =
       let q = E ++ B in
-      let a = length-cut 16 0 (T .arities) in
+      let a = length-cut 16 0 (T .bytes) in
       let r = length-cut 16 0 (T .roles) in
       let e : T .operators ∷ (A ++ (T .arrays ∷ (R ++ (D ++ q)))) ≡ (to-roles ++ R) ++ (D ++ q) = simp append-assoc in
       ap (cut 16 34) e ∙ cut-mid 16 34 (to-roles ++ R) D q (length-cut 16 0 (T .dimensions)) (simp length-append (omega arith))
@@ -153,7 +153,7 @@ module _ (T : Packed) where
   extents-back : cut 48 50 (flattened T) ≡ E
   unfolding flattened
   extents-back =
-      let a = length-cut 16 0 (T .arities) in
+      let a = length-cut 16 0 (T .bytes) in
       let r = length-cut 16 0 (T .roles) in
       let d = length-cut 16 0 (T .dimensions) in
       let e : T .operators ∷ (A ++ (T .arrays ∷ (R ++ (D ++ (E ++ B))))) ≡ (to-roles ++ (R ++ D)) ++ (E ++ B) = simp append-assoc in
@@ -162,7 +162,7 @@ module _ (T : Packed) where
   bases-back : cut 17 98 (flattened T) ≡ B
   unfolding flattened
   bases-back =
-      let a = length-cut 16 0 (T .arities) in
+      let a = length-cut 16 0 (T .bytes) in
       let r = length-cut 16 0 (T .roles) in
       let d = length-cut 16 0 (T .dimensions) in
       let x = length-cut 48 0 (T .extents) in
@@ -200,11 +200,11 @@ module _ (T U : Packed) (roles : U .roles ≡ cut 16 0 (T .roles)) (dimensions :
   arrays-same zero a h = refl
   arrays-same (suc n) a h = rw (array-same a (omega arith), arrays-same n (a + 1) (omega arith))
 
-  same : U .operators ≡ T .operators → U .arities ≡ cut 16 0 (T .arities) → U .arrays ≡ T .arrays → unpacked U ≡ unpacked T
+  same : U .operators ≡ T .operators → U .bytes ≡ cut 16 0 (T .bytes) → U .arrays ≡ T .arrays → unpacked U ≡ unpacked T
   unfolding unpacked
   same o a n =
-      let p : cut (min (U .operators) 16) 0 (U .arities) ≡ cut (min (T .operators) 16) 0 (T .arities) =
-      ap (λ (k : ℕ). cut (min k 16) 0 (U .arities)) o ∙ ap (cut (min (T .operators) 16) 0) a ∙ cut-front (min (T .operators) 16) 0 16 (T .arities) (omega arith) in
+      let p : cut (min (U .operators) 16) 0 (U .bytes) ≡ cut (min (T .operators) 16) 0 (T .bytes) =
+      ap (λ (k : ℕ). cut (min k 16) 0 (U .bytes)) o ∙ ap (cut (min (T .operators) 16) 0) a ∙ cut-front (min (T .operators) 16) 0 16 (T .bytes) (omega arith) in
       let q : arraysOf U (min (U .arrays) 16) 0 ≡ arraysOf T (min (T .arrays) 16) 0 =
       ap (λ (k : ℕ). arraysOf U (min k 16) 0) n ∙ arrays-same (min (T .arrays) 16) 0 (omega arith) in
       rw (p, q)
@@ -215,7 +215,7 @@ unfolding tablesIn viewed
 tables-flat T w =
     let e : capped (cut 48 0 (T .extents)) ≡ cut 48 0 (T .extents) =
     capped-words (cut 48 0 (T .extents)) (λ i h. let k : i < 48 = omega (arith, length-cut 48 0 (T .extents)) in rw (getD-front 48 (T .extents) i k) (w i k)) in
-    same T (viewed (flattened T)) (roles-back T) (dimensions-back T) (ap capped (extents-back T) ∙ e) (operators-back T) (arities-back T) (arrays-back T)
+    same T (viewed (flattened T)) (roles-back T) (dimensions-back T) (ap capped (extents-back T) ∙ e) (operators-back T) (bytes-back T) (arrays-back T)
 
 pub bases-flat : (T : Packed) (a : ℕ) → a < 17 → getD (viewed (flattened T) .bases) a 0 ≡ getD (T .bases) a 0
 unfolding viewed
@@ -223,7 +223,7 @@ bases-flat T a h = ap (λ (l : List ℕ). getD l a 0) (bases-back T) ∙ getD-fr
 
 -- ---- what the numbers say
 module _ (l : List ℕ) where
-  pub operators-in : length (tablesIn l .arities) ≡ min (getD l 0 0) 16
+  pub operators-in : length (tablesIn l .operators) ≡ min (getD l 0 0) 16
   unfolding tablesIn viewed
   operators-in = operators-are (viewed l)
 
@@ -232,13 +232,17 @@ module _ (l : List ℕ) where
   arrays-in = arrays-are (viewed l)
 
   module _ (o : ℕ) where
-    pub arity-at : o < length (tablesIn l .arities) → getD l (1 + o) 0 ≡ getD (tablesIn l .arities) o 0
+    pub operator-at : o < length (tablesIn l .operators) → getD l (1 + o) 0 ≡ getD (tablesIn l .operators) o 0
     unfolding tablesIn viewed
-    arity-at h = let e = operators-are (viewed l) in sym (getD-cut 16 1 l o (omega arith)) ∙ arity-in (viewed l) o (omega arith)
+    operator-at h = let e = operators-are (viewed l) in sym (getD-cut 16 1 l o (omega arith)) ∙ operator-in (viewed l) o (omega arith)
 
-    pub arity-none : length (tablesIn l .arities) ≤ o → 0 ≡ getD (tablesIn l .arities) o 0
+    operator-none : length (tablesIn l .operators) ≤ o → getD (tablesIn l .operators) o 0 ≡ 0
     unfolding tablesIn
-    arity-none h = let e = operators-are (viewed l) in arity-out (viewed l) o (omega arith)
+    operator-none h = let e = operators-are (viewed l) in sym (operator-out (viewed l) o (omega arith))
+
+    pub arity-none : length (tablesIn l .operators) ≤ o → 0 ≡ arityAt (tablesIn l .operators) o
+    unfolding arityOf swaps
+    arity-none h = rw (operator-none h)
 
   module _ (a : ℕ) where
     pub role-at : a < length (tablesIn l .arrays) → getD l (18 + a) 0 ≡ arrayAt (tablesIn l .arrays) a .role

@@ -4,12 +4,12 @@ use Prim.Native.Nat.{ℕ, zero, suc, _+_, _*_, _≤_, _<_}
 use mathlib.Core.List.{List, [], _∷_}
 use mathlib.Core.Bool.{Bool, true, false, not, _||_}
 use native.Mathlib.Omega.{arith}
-use lib.ListN.{length, getD}
+use lib.ListN.{length}
 use lib.IntN.{ℤ, pos, negsuc}
 use lib.Dec.{leb, ltb, eqb}
 use borrow.Author.Tests.{leb-true, ltb-true, lt-leb, le-leb}
 use Rattle.model.specs.Test.{if_then_else_, within}
-use Rattle.model.specs.Tables.{Tables, arrayAt}
+use Rattle.model.specs.Tables.{Tables, arrayAt, arityAt}
 use Rattle.reader.specs.Field.{Outcome, got, no, Reader, andThen, ask, field, byte, u16, u32, i8, i16, littleEndian, times, give, refuse}
 use Rattle.reader.specs.Syntax.{Form, Expr, Exprs, Item, Items, count, counts}
 use Rattle.reader.specs.Syntax.Exprs.{none, more}
@@ -146,9 +146,9 @@ module _ (s : List ℕ) where
     unfolding applied applyOf count
     applied-held zero at next w = tt
     applied-held (suc left) at next w =
-        held-then (λ x n. (x < length (t .arities)) × (n ≡ next + 1) × (n ≤ length s)) (Counted at) (index (length (t .arities)) s next) _ (index-held (length (t .arities)) next) λ o x v.
-        held-then (Counteds x) (Counted at) (times none more (node t loops (applied t loops left)) (getD (t .arities) o 0) s x) _
-        (args-held (node t loops (applied t loops left)) (λ p. node-held (applied t loops left) p (λ q. applied-held left p q)) (getD (t .arities) o 0) x (v .2)) λ es y u. (omega arith, u .1)
+        held-then (λ x n. (x < length (t .operators)) × (n ≡ next + 1) × (n ≤ length s)) (Counted at) (index (length (t .operators)) s next) _ (index-held (length (t .operators)) next) λ o x v.
+        held-then (Counteds x) (Counted at) (times none more (node t loops (applied t loops left)) (arityAt (t .operators) o) s x) _
+        (args-held (node t loops (applied t loops left)) (λ p. node-held (applied t loops left) p (λ q. applied-held left p q)) (arityAt (t .operators) o) x (v .2)) λ es y u. (omega arith, u .1)
 
     pub nodes-held : (left at : ℕ) → Held (Counted at) (node t loops (applied t loops left) s at)
     nodes-held left at = node-held (applied t loops left) at (λ q. applied-held left at q)

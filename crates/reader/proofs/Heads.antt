@@ -10,13 +10,13 @@ use lib.ListN.{length}
 use lib.Dec.{leb, eqb}
 use borrow.Author.Tests.{le-leb, lt-leb, leb-true, eq-eqb, ne-eqb}
 use Rattle.model.specs.Test.{within}
-use Rattle.model.specs.Tables.{Array, Tables, cells, local}
+use Rattle.model.specs.Tables.{Array, Tables, cells, local, operatorIn}
 use Rattle.reader.specs.Field.{Outcome, got, no, Reader, andThen, ask, field, byte, u16, times}
-use Rattle.reader.specs.Grammar.{head, arity, operators, extent, array, arrays, tables}
-use Rattle.reader.specs.Parts.{checked, roleTest, arrayTable, tablesWith, AritiesAre, ExtentsAre, ArrayIs, ArraysAre, Small}
+use Rattle.reader.specs.Grammar.{head, operatorOf, operators, extent, array, arrays, tables}
+use Rattle.reader.specs.Parts.{checked, roleTest, arrayTable, tablesWith, OperatorsAre, ExtentsAre, ArrayIs, ArraysAre, Small}
 use Rattle.reader.specs.Entries.{padded, packed, unpacked, noTables, TablesAre}
 use Rattle.reader.specs.declared.fields.Place.the-variants as place
-use Rattle.reader.specs.declared.header.AritiesRead.{AritiesRead}
+use Rattle.reader.specs.declared.header.OperatorsRead.{OperatorsRead}
 use Rattle.reader.specs.declared.header.ExtentsRead.{ExtentsRead}
 use Rattle.reader.specs.declared.header.ArrayRead.{ArrayRead}
 use Rattle.reader.specs.declared.tables.TablesRead.{TablesRead}
@@ -90,9 +90,9 @@ extent-held s at =
     any (got x y) = tt
     any (no k p) = tt
 
-pub arity-is : (s : List ℕ) (at : ℕ) → checked 6 (within 1 4) s at ≡ arity s at
-unfolding checked arity
-arity-is s at = refl
+pub operator-is : (version : ℕ) (s : List ℕ) (at : ℕ) → checked 6 (operatorIn version) s at ≡ operatorOf version s at
+unfolding checked operatorOf
+operator-is version s at = refl
 
 -- a checked byte, and what follows it
 module _ {B : Type 0} (n : ℕ) (test : ℕ → Bool) (s : List ℕ) (at : ℕ) (f : ℕ → ℕ → Outcome B) where
@@ -242,13 +242,13 @@ module _ (s : List ℕ) (at : ℕ) where
       unfolding head
       head-cut v = rw (e, eq-eqb m 5262401 w, v)
 
-      pub head-version : {x next : ℕ} → u16 s version ≡ got x next → (x ≡ 1 → ⊥) → head s at ≡ no 5 version
+      pub head-version : {x next : ℕ} → u16 s version ≡ got x next → within 1 2 x ≡ false → head s at ≡ no 5 version
       unfolding head
-      head-version {x} v u = rw (e, eq-eqb m 5262401 w, v, ne-eqb x 1 u)
+      head-version {x} v u = rw (e, eq-eqb m 5262401 w, v, u)
 
-      pub head-all : {x next : ℕ} → u16 s version ≡ got x next → x ≡ 1 → head s at ≡ got 0 next
+      pub head-all : {x next : ℕ} → u16 s version ≡ got x next → within 1 2 x ≡ true → head s at ≡ got x next
       unfolding head
-      head-all {x} v u = rw (e, eq-eqb m 5262401 w, v, eq-eqb x 1 u)
+      head-all {x} v u = rw (e, eq-eqb m 5262401 w, v, u)
 
 -- an answer has one case
 same-next : {a b : ℕ} → place.Next a ≡ place.Next b → a ≡ b
@@ -262,13 +262,13 @@ never e = let z : _≡_ {A = ℕ} 0 1 = cc in omega arith
 
 -- what private answers hold
 module _ (n : ℕ) {m : Outcome (List ℕ)} where
-  pub arities-no : (r : AritiesRead) {k p : ℕ} → m ≡ no k p → r .answer ≡ place.Not k p → AritiesAre n m r
-  unfolding AritiesAre
-  arities-no r e h = rw e h
+  pub operators-refused : (r : OperatorsRead) {k p : ℕ} → m ≡ no k p → r .answer ≡ place.Not k p → OperatorsAre n m r
+  unfolding OperatorsAre
+  operators-refused r e h = rw e h
 
-  pub arities-got : (r : AritiesRead) {l : List ℕ} {next : ℕ} → m ≡ got l next → r .answer ≡ place.Next next → r .arities ≡ padded 16 0 l → length l ≡ n → AritiesAre n m r
-  unfolding AritiesAre
-  arities-got r e h w v = rw e (h, w, v)
+  pub operators-given : (r : OperatorsRead) {l : List ℕ} {next : ℕ} → m ≡ got l next → r .answer ≡ place.Next next → r .bytes ≡ padded 16 0 l → length l ≡ n → OperatorsAre n m r
+  unfolding OperatorsAre
+  operators-given r e h w v = rw e (h, w, v)
 
   pub extents-no : (r : ExtentsRead) {k p : ℕ} → m ≡ no k p → r .answer ≡ place.Not k p → ExtentsAre n m r
   unfolding ExtentsAre
@@ -280,15 +280,15 @@ module _ (n : ℕ) {m : Outcome (List ℕ)} where
   extents-got r e h w v u x = rw e (h, w, v, u, x)
 
 module _ (n : ℕ) where
-  pub arities-is : (m : Outcome (List ℕ)) (r : AritiesRead) {next : ℕ} → AritiesAre n m r → r .answer ≡ place.Next next → (l : List ℕ) × (m ≡ got l next) × (r .arities ≡ padded 16 0 l) × (length l ≡ n)
-  unfolding AritiesAre
-  arities-is (got l x) r h e = (l, ap (got l) (same-next (sym (h .0) ∙ e)), h .1, h .2)
-  arities-is (no k p) r h e = absurd (never (sym e ∙ h))
+  pub operators-is : (m : Outcome (List ℕ)) (r : OperatorsRead) {next : ℕ} → OperatorsAre n m r → r .answer ≡ place.Next next → (l : List ℕ) × (m ≡ got l next) × (r .bytes ≡ padded 16 0 l) × (length l ≡ n)
+  unfolding OperatorsAre
+  operators-is (got l x) r h e = (l, ap (got l) (same-next (sym (h .0) ∙ e)), h .1, h .2)
+  operators-is (no k p) r h e = absurd (never (sym e ∙ h))
 
-  pub arities-not : (m : Outcome (List ℕ)) (r : AritiesRead) {k p : ℕ} → AritiesAre n m r → r .answer ≡ place.Not k p → m ≡ no k p
-  unfolding AritiesAre
-  arities-not (got l x) r h e = absurd (never (sym (h .0) ∙ e))
-  arities-not (no k p) r h e = same-not (sym h ∙ e)
+  pub operators-not : (m : Outcome (List ℕ)) (r : OperatorsRead) {k p : ℕ} → OperatorsAre n m r → r .answer ≡ place.Not k p → m ≡ no k p
+  unfolding OperatorsAre
+  operators-not (got l x) r h e = absurd (never (sym (h .0) ∙ e))
+  operators-not (no k p) r h e = same-not (sym h ∙ e)
 
   pub extents-is : (m : Outcome (List ℕ)) (r : ExtentsRead) {next : ℕ} → ExtentsAre n m r → r .answer ≡ place.Next next →
       (l : List ℕ) × (m ≡ got l next) × (r .extents ≡ padded 3 0 l) × (length l ≡ n) × (r .size ≡ cells l) × (r .size ≤ 1073741824)
@@ -329,12 +329,12 @@ module _ (n : ℕ) (ops : List ℕ) (r : TablesRead) where
   arrays-refused e h = rw e h
 
   pub arrays-given : {m : Outcome (List Array)} {xs : List Array} {next : ℕ} → m ≡ got xs next → r .answer ≡ place.Next next →
-      r .tables ≡ packed (record { arities = ops; arrays = xs }) → length xs ≡ n → Small xs → ArraysAre n ops m r
+      r .tables ≡ packed (record { operators = ops; arrays = xs }) → length xs ≡ n → Small xs → ArraysAre n ops m r
   unfolding ArraysAre
   arrays-given e h a b c = rw e (h, a, b, c)
 
   pub arrays-is : (m : Outcome (List Array)) {next : ℕ} → ArraysAre n ops m r → r .answer ≡ place.Next next →
-      (xs : List Array) × (m ≡ got xs next) × (r .tables ≡ packed (record { arities = ops; arrays = xs })) × (length xs ≡ n) × Small xs
+      (xs : List Array) × (m ≡ got xs next) × (r .tables ≡ packed (record { operators = ops; arrays = xs })) × (length xs ≡ n) × Small xs
   unfolding ArraysAre
   arrays-is (got xs x) h e = (xs, ap (got xs) (same-next (sym (h .0) ∙ e)), h .1, h .2, h .3)
   arrays-is (no k p) h e = absurd (never (sym e ∙ h))
@@ -353,7 +353,7 @@ module _ (r : TablesRead) where
 
 -- the two tables, part by part
 abbrev with-arrays : List ℕ → List Array → ℕ → Outcome Tables
-with-arrays ops xs next = got (record { arities = ops; arrays = xs }) next
+with-arrays ops xs next = got (record { operators = ops; arrays = xs }) next
 
 pub checked-same : (k : ℕ) (f g : ℕ → Bool) (s : List ℕ) (at : ℕ) → ((x : ℕ) → f x ≡ g x) → checked k f s at ≡ checked k g s at
 unfolding checked
@@ -367,13 +367,13 @@ pub within-zero : (high x : ℕ) → within 0 high x ≡ leb x high
 within-zero high x = rw (le-leb 0 x (omega arith))
 
 module _ (s : List ℕ) (at : ℕ) where
-  pub operators-no : {k p : ℕ} → checked 6 (within 0 16) s at ≡ no k p → operators s at ≡ no k p
+  pub operators-no : (version : ℕ) {k p : ℕ} → checked 6 (within 0 16) s at ≡ no k p → operators version s at ≡ no k p
   unfolding operators
-  operators-no e = sym (checked-no 6 (λ x. leb x 16) s at _ (sym (checked-same 6 (within 0 16) (λ x. leb x 16) s at (within-zero 16)) ∙ e))
+  operators-no version e = sym (checked-no 6 (λ x. leb x 16) s at _ (sym (checked-same 6 (within 0 16) (λ x. leb x 16) s at (within-zero 16)) ∙ e))
 
-  pub operators-got : {n y : ℕ} → checked 6 (within 0 16) s at ≡ got n y → operators s at ≡ times [] _∷_ arity n s y
+  pub operators-got : (version : ℕ) {n y : ℕ} → checked 6 (within 0 16) s at ≡ got n y → operators version s at ≡ times [] _∷_ (operatorOf version) n s y
   unfolding operators
-  operators-got e = sym (checked-got 6 (λ x. leb x 16) s at _ (sym (checked-same 6 (within 0 16) (λ x. leb x 16) s at (within-zero 16)) ∙ e))
+  operators-got version e = sym (checked-got 6 (λ x. leb x 16) s at _ (sym (checked-same 6 (within 0 16) (λ x. leb x 16) s at (within-zero 16)) ∙ e))
 
   pub array-table-no : {k p : ℕ} → checked 7 (within 1 16) s at ≡ no k p → arrayTable s at ≡ no k p
   unfolding arrayTable
@@ -388,13 +388,13 @@ module _ (s : List ℕ) (at : ℕ) where
   tables-head e = sym (stop whole (head s at) _ e refl)
 
   module _ {a x : ℕ} (e : head s at ≡ got a x) where
-    pub tables-operators : {k p : ℕ} → operators s x ≡ no k p → tables s at ≡ no k p
+    pub tables-operators : {k p : ℕ} → operators a s x ≡ no k p → tables s at ≡ no k p
     unfolding tables
-    tables-operators f = sym (step whole (head s at) _ e (stop whole (operators s x) _ f refl))
+    tables-operators f = sym (step whole (head s at) _ e (stop whole (operators a s x) _ f refl))
 
-    pub tables-with : {ops : List ℕ} {y : ℕ} → operators s x ≡ got ops y → tables s at ≡ tablesWith ops (arrayTable s y)
+    pub tables-with : {ops : List ℕ} {y : ℕ} → operators a s x ≡ got ops y → tables s at ≡ tablesWith ops (arrayTable s y)
     unfolding tables tablesWith arrayTable
-    tables-with {ops} {y} f = sym (step whole (head s at) _ e (step whole (operators s x) _ f (go (byte s y))))
+    tables-with {ops} {y} f = sym (step whole (head s at) _ e (step whole (operators a s x) _ f (go (byte s y))))
       where
         tested : (t : Bool) (n z : ℕ) → andThen (andThen (ask 7 y t s z) (λ _ w. arrays n false 0 s w)) (with-arrays ops)
             ≡ andThen (ask 7 y t s z) (λ _ w. andThen (arrays n false 0 s w) (with-arrays ops))
@@ -410,6 +410,6 @@ pub with-no : (ops : List ℕ) {m : Outcome (List Array)} {k p : ℕ} → m ≡ 
 unfolding tablesWith
 with-no ops e = rw e
 
-pub with-got : (ops : List ℕ) {m : Outcome (List Array)} {xs : List Array} {next : ℕ} → m ≡ got xs next → tablesWith ops m ≡ got (record { arities = ops; arrays = xs }) next
+pub with-got : (ops : List ℕ) {m : Outcome (List Array)} {xs : List Array} {next : ℕ} → m ≡ got xs next → tablesWith ops m ≡ got (record { operators = ops; arrays = xs }) next
 unfolding tablesWith
 with-got ops e = rw e

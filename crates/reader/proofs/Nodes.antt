@@ -4,16 +4,16 @@ use Prim.Native.Nat.{ℕ, zero, suc, _+_, _-_, _≤_, _<_}
 use mathlib.Core.List.{List, [], _∷_}
 use native.Mathlib.Omega.{arith}
 use native.Mathlib.Numerals.{sub-one}
-use lib.ListN.{length, getD}
+use lib.ListN.{length}
 use borrow.Author.Tests.{eq-eqb, ne-eqb}
-use Rattle.model.specs.Tables.{Tables, arrayAt}
+use Rattle.model.specs.Tables.{Tables, arrayAt, arityAt}
 use Rattle.reader.specs.Field.{Outcome, got, no, Reader, andThen, byte, times}
 use Rattle.reader.specs.Syntax.{Expr, Exprs, count, counts}
 use Rattle.reader.specs.Syntax.Expr.{read, apply}
 use Rattle.reader.specs.Syntax.Exprs.{none, more}
 use Rattle.reader.specs.Grammar.{form, subscripts, index, readOf, applyOf, node, applied}
 use Rattle.reader.specs.Answers.{through, ended, fieldSays, placeSays}
-use Rattle.reader.specs.Entries.{leafOf, arityOf}
+use Rattle.reader.specs.Entries.{leafOf, arityStep}
 use Rattle.reader.specs.declared.fields.Field.{Field}
 use Rattle.reader.specs.declared.fields.Field.the-variants as field
 use Rattle.reader.specs.declared.fields.Place.{Place}
@@ -27,36 +27,36 @@ code-fits s at e = let h = held-got (λ x next. (next ≡ at + 1) × (next ≤ l
 
 module _ (t : Tables) (s : List ℕ) where
   -- the arity of an operator, by its number
-  pub arity-none : (left p at : ℕ) → left ≡ 0 → no 12 p ≡ arityOf t left p s at
-  unfolding arityOf
+  pub arity-none : (left p at : ℕ) → left ≡ 0 → no 12 p ≡ arityStep t left p s at
+  unfolding arityStep
   arity-none zero p at h = refl
   arity-none (suc left) p at h = absurd (omega arith)
 
-  module _ (p at : ℕ) {r : Field} {m : ℕ} (w : m ≡ length (t .arities)) (e : fieldSays r ≡ index m s at) where
-    pub arity-not : (left : ℕ) {k q : ℕ} → 0 < left → r ≡ field.Not k q → no k q ≡ arityOf t left p s at
-    unfolding arityOf
+  module _ (p at : ℕ) {r : Field} {m : ℕ} (w : m ≡ length (t .operators)) (e : fieldSays r ≡ index m s at) where
+    pub arity-not : (left : ℕ) {k q : ℕ} → 0 < left → r ≡ field.Not k q → no k q ≡ arityStep t left p s at
+    unfolding arityStep
     arity-not zero h v = absurd (omega arith)
-    arity-not (suc left) {k} {q} h v = stop (λ m. m) (index (length (t .arities)) s at) _ (index-no m (length (t .arities)) s at w e v) refl
+    arity-not (suc left) {k} {q} h v = stop (λ m. m) (index (length (t .operators)) s at) _ (index-no m (length (t .operators)) s at w e v) refl
 
-    pub arity-is : (left : ℕ) {o next n : ℕ} → 0 < left → r ≡ field.Is o next → n ≡ getD (t .arities) o 0 → got n next ≡ arityOf t left p s at
-    unfolding arityOf
+    pub arity-is : (left : ℕ) {o next n : ℕ} → 0 < left → r ≡ field.Is o next → n ≡ arityAt (t .operators) o → got n next ≡ arityStep t left p s at
+    unfolding arityStep
     arity-is zero h v x = absurd (omega arith)
-    arity-is (suc left) {o} {next} h v x = step (λ m. m) (index (length (t .arities)) s at) _ (index-got m (length (t .arities)) s at w e v) (ap (λ (n : ℕ). got n next) x)
+    arity-is (suc left) {o} {next} h v x = step (λ m. m) (index (length (t .operators)) s at) _ (index-got m (length (t .operators)) s at w e v) (ap (λ (n : ℕ). got n next) x)
 
-  arity-by : {P : Type 0} (left p at : ℕ) {n next : ℕ} → arityOf t left p s at ≡ got n next →
-      ((o : ℕ) → 0 < left → index (length (t .arities)) s at ≡ got o next → n ≡ getD (t .arities) o 0 → P) → P
-  unfolding arityOf
+  arity-by : {P : Type 0} (left p at : ℕ) {n next : ℕ} → arityStep t left p s at ≡ got n next →
+      ((o : ℕ) → 0 < left → index (length (t .operators)) s at ≡ got o next → n ≡ arityAt (t .operators) o → P) → P
+  unfolding arityStep
   arity-by zero p at e k = not-got e
-  arity-by (suc left) p at {n} {next} e k = read-by (index (length (t .arities)) s at) _ e λ o x e1 v.
+  arity-by (suc left) p at {n} {next} e k = read-by (index (length (t .operators)) s at) _ e λ o x e1 v.
       k o (omega arith) (let w : x ≡ next = cc in e1 ∙ ap (got o) w) (cc)
 
   -- an operator takes its number's byte, and a level of nesting
-  pub arity-held : (left p at : ℕ) {n next : ℕ} → arityOf t left p s at ≡ got n next → (0 < left) × (next ≡ at + 1) × (next ≤ length s)
-  arity-held left p at e = arity-by left p at e λ o w x y. let h = held-got (λ x n. (x < length (t .arities)) × (n ≡ at + 1) × (n ≤ length s)) (index-held s (length (t .arities)) at) x in (w, h .1, h .2)
+  pub arity-held : (left p at : ℕ) {n next : ℕ} → arityStep t left p s at ≡ got n next → (0 < left) × (next ≡ at + 1) × (next ≤ length s)
+  arity-held left p at e = arity-by left p at e λ o w x y. let h = held-got (λ x n. (x < length (t .operators)) × (n ≡ at + 1) × (n ≤ length s)) (index-held s (length (t .operators)) at) x in (w, h .1, h .2)
 
-  number-no : (at : ℕ) {k q : ℕ} → andThen (index (length (t .arities)) s at) (λ o next. got (getD (t .arities) o 0) next) ≡ no k q → index (length (t .arities)) s at ≡ no k q
+  number-no : (at : ℕ) {k q : ℕ} → andThen (index (length (t .operators)) s at) (λ o next. got (arityAt (t .operators) o) next) ≡ no k q → index (length (t .operators)) s at ≡ no k q
   unfolding through
-  number-no at e = through-no (λ o. getD (t .arities) o 0) (index (length (t .arities)) s at) e
+  number-no at e = through-no (λ o. arityAt (t .operators) o) (index (length (t .operators)) s at) e
 
 module _ (t : Tables) (loops : ℕ) (s : List ℕ) where
   -- a read's subscripts, by the number of dimensions
@@ -78,10 +78,10 @@ module _ (t : Tables) (loops : ℕ) (s : List ℕ) where
     unfolding node
     node-operator h k = step (through count) (byte s at) _ e (rw (eq-eqb code 0x11 h, h) k)
 
-  pub applied-no : (left p at : ℕ) {k q : ℕ} → arityOf t left p s at ≡ no k q → no k q ≡ through count (applied t loops left p s at)
-  unfolding arityOf applied applyOf
+  pub applied-no : (left p at : ℕ) {k q : ℕ} → arityStep t left p s at ≡ no k q → no k q ≡ through count (applied t loops left p s at)
+  unfolding arityStep applied applyOf
   applied-no zero p at e = sym e ∙ refused count refl
-  applied-no (suc left) p at {k} {q} e = stop (through count) (index (length (t .arities)) s at) _ (number-no t s at e) (refused count refl)
+  applied-no (suc left) p at {k} {q} e = stop (through count) (index (length (t .operators)) s at) _ (number-no t s at e) (refused count refl)
 
   applied-some : (left at next : ℕ) {q : Outcome ℕ} → 0 < left → q ≡ through count (applyOf t loops (node t loops (applied t loops (left - 1))) s next) →
       q ≡ through count (applied t loops left at s next)
@@ -89,27 +89,27 @@ module _ (t : Tables) (loops : ℕ) (s : List ℕ) where
   applied-some zero at next h e = absurd (omega arith)
   applied-some (suc left) at next h e = simp sub-one at e
 
-  module _ (left at : ℕ) {o next n : ℕ} (e : index (length (t .arities)) s at ≡ got o next) (w : n ≡ getD (t .arities) o 0)
+  module _ (left at : ℕ) {o next n : ℕ} (e : index (length (t .operators)) s at ≡ got o next) (w : n ≡ arityAt (t .operators) o)
       (r : Field) (h : fieldSays r ≡ through counts (times none more (node t loops (applied t loops left)) n s next)) where
     abbrev args : Outcome Exprs
-    args = times none more (node t loops (applied t loops left)) (getD (t .arities) o 0) s next
+    args = times none more (node t loops (applied t loops left)) (arityAt (t .operators) o) s next
 
     said : fieldSays r ≡ through counts args
     said = h ∙ ap (λ (k : ℕ). through counts (times none more (node t loops (applied t loops left)) k s next)) w
 
     apply-no : {k p : ℕ} → r ≡ field.Not k p → no k p ≡ through count (applyOf t loops (node t loops (applied t loops left)) s at)
     unfolding applyOf
-    apply-no q = step (through count) (index (length (t .arities)) s at) _ e (stop (through count) args _ (through-no counts args (field-no said q)) (refused count refl))
+    apply-no q = step (through count) (index (length (t .operators)) s at) _ e (stop (through count) args _ (through-no counts args (field-no said q)) (refused count refl))
 
     apply-is : {k past c : ℕ} → r ≡ field.Is k past → c ≡ k + 1 → got c past ≡ through count (applyOf t loops (node t loops (applied t loops left)) s at)
     unfolding applyOf count
     apply-is {k} {past} {c} q d =
         let g = through-got counts args (field-got said q) in
         let v : c ≡ suc (counts (g .0)) = omega (arith, g .2) in
-        step (through count) (index (length (t .arities)) s at) _ e (step (through count) args _ (g .1) (ap (λ (x : ℕ). got x past) v ∙ made count refl))
+        step (through count) (index (length (t .operators)) s at) _ e (step (through count) args _ (g .1) (ap (λ (x : ℕ). got x past) v ∙ made count refl))
 
   -- an operator by its arity, and what its arguments answer
-  module _ (left p at : ℕ) {n first : ℕ} (e : arityOf t left p s at ≡ got n first)
+  module _ (left p at : ℕ) {n first : ℕ} (e : arityStep t left p s at ≡ got n first)
       (r : Field) (h : fieldSays r ≡ through counts (times none more (node t loops (applied t loops (left - 1))) n s first)) where
     pub operator-no : {k q : ℕ} → r ≡ field.Not k q → no k q ≡ through count (applied t loops left p s at)
     operator-no v = arity-by t s left p at e λ o w x y. applied-some left p at w (apply-no (left - 1) at x y r h v)

@@ -34,21 +34,21 @@ module _ (t : Packed) where
   getD-arrays (suc n) a d zero h = let e : a + 0 ≡ a = omega arith in rw e
   getD-arrays (suc n) a d (suc i) h = let e : a + 1 + i ≡ a + suc i = omega arith in getD-arrays n (a + 1) d i (omega arith) ∙ ap (arrayOf t) e
 
-  pub operators-are : length (unpacked t .arities) ≡ min (t .operators) 16
+  pub operators-are : length (unpacked t .operators) ≡ min (t .operators) 16
   unfolding unpacked
-  operators-are = length-cut (min (t .operators) 16) 0 (t .arities)
+  operators-are = length-cut (min (t .operators) 16) 0 (t .bytes)
 
   pub arrays-are : length (unpacked t .arrays) ≡ min (t .arrays) 16
   unfolding unpacked
   arrays-are = length-arrays (min (t .arrays) 16) 0
 
   module _ (o : ℕ) where
-    pub arity-in : o < min (t .operators) 16 → getD (t .arities) o 0 ≡ getD (unpacked t .arities) o 0
+    pub operator-in : o < min (t .operators) 16 → getD (t .bytes) o 0 ≡ getD (unpacked t .operators) o 0
     unfolding unpacked
-    arity-in h = let e : 0 + o ≡ o = omega arith in sym (getD-cut (min (t .operators) 16) 0 (t .arities) o h ∙ ap (λ (j : ℕ). getD (t .arities) j 0) e)
+    operator-in h = let e : 0 + o ≡ o = omega arith in sym (getD-cut (min (t .operators) 16) 0 (t .bytes) o h ∙ ap (λ (j : ℕ). getD (t .bytes) j 0) e)
 
-    pub arity-out : min (t .operators) 16 ≤ o → 0 ≡ getD (unpacked t .arities) o 0
-    arity-out h = sym (List·getD-eq-default (unpacked t .arities) 0 (omega (arith, operators-are)))
+    pub operator-out : min (t .operators) 16 ≤ o → 0 ≡ getD (unpacked t .operators) o 0
+    operator-out h = sym (List·getD-eq-default (unpacked t .operators) 0 (omega (arith, operators-are)))
 
   module _ (a : ℕ) where
     pub array-in : a < min (t .arrays) 16 → arrayAt (unpacked t .arrays) a ≡ arrayOf t a

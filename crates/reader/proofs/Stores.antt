@@ -74,7 +74,7 @@ snoc-set f xs x k v e h w =
 -- one array more
 pub packed-more : (ops : List ℕ) (xs : List Array) (x : Array) (k : ℕ) (r : ArrayRead) (total : ℕ) → length xs ≡ k → k < 16 → Small xs → length (x .extents) ≤ 3 →
     r .role ≡ x .role → r .dimensions ≡ length (x .extents) → r .extents ≡ padded 3 0 (x .extents) → total ≡ sizes xs + cells (x .extents) →
-    withArray (packed (record { arities = ops; arrays = xs })) k r total ≡ packed (record { arities = ops; arrays = xs ++ (x ∷ []) })
+    withArray (packed (record { operators = ops; arrays = xs })) k r total ≡ packed (record { operators = ops; arrays = xs ++ (x ∷ []) })
 unfolding withArray packed threes
 packed-more ops xs x k r total e h s w a b c d =
     let p1 : k + 1 ≡ length (xs ++ (x ∷ [])) = simp length-append (omega arith) in
@@ -109,7 +109,7 @@ getD-mid f ps xs x n =
 
 module _ (ops : List ℕ) where
   abbrev with-arrays : List Array → Packed
-  with-arrays xs = packed (record { arities = ops; arrays = xs })
+  with-arrays xs = packed (record { operators = ops; arrays = xs })
 
   array-back : (ps xs : List Array) (x : Array) → Small ps → length (x .extents) ≤ 3 → arrayOf (with-arrays (ps ++ (x ∷ xs))) (length ps) ≡ x
   unfolding arrayOf packed threes
@@ -132,7 +132,7 @@ module _ (ops : List ℕ) where
       (arrays-back (ps ++ (x ∷ [])) xs (small-snoc ps x s (h .0)) (h .1))) in
       rw (array-back ps xs x s (h .0), u)
 
-  operators-back : length ops ≤ 16 → (xs : List Array) → cut (min (with-arrays xs .operators) 16) 0 (with-arrays xs .arities) ≡ ops
+  operators-back : length ops ≤ 16 → (xs : List Array) → cut (min (with-arrays xs .operators) 16) 0 (with-arrays xs .bytes) ≡ ops
   unfolding packed
   operators-back h xs = let m : min (length ops) 16 ≡ length ops = omega arith in rw m (cut-mid (length ops) 0 [] ops (replicate (16 - length ops) 0) refl refl)
 
@@ -142,6 +142,6 @@ module _ (ops : List ℕ) where
 
 -- tables that were packed are read back
 pub unpacked-packed : (ops : List ℕ) (xs : List Array) → length ops ≤ 16 → length xs ≤ 16 → Small xs →
-    unpacked (packed (record { arities = ops; arrays = xs })) ≡ record { arities = ops; arrays = xs }
+    unpacked (packed (record { operators = ops; arrays = xs })) ≡ record { operators = ops; arrays = xs }
 unfolding unpacked Small
 unpacked-packed ops xs h w s = rw (operators-back ops h xs, arrays-kept ops xs w, arrays-back ops [] xs tt s)

@@ -9,7 +9,7 @@ use mir.Val.{toZ}
 use mathlib.Core.Path.{_≡_}
 use Rattle.model.specs.Test.{if_then_else_}
 use Rattle.reader.specs.Field.{Outcome, got, no, Reader, _>>=_, give, refuse, times}
-use Rattle.model.specs.Tables.{Array, Tables, cells}
+use Rattle.model.specs.Tables.{Array, Tables, cells, arityAt}
 use Rattle.reader.specs.Syntax.{Form, Expr, Items}
 use Rattle.reader.specs.Grammar.{tables, form, index, readOf, literalOf, constantOf, expression, body, sized}
 use Rattle.reader.specs.Answers.{placed}
@@ -86,11 +86,11 @@ leafOf t loops code p =
     else refuse 9 p
 
 -- the arity of the operator whose code stands at p; operators may nest `left` deep, this one counted
-unfoldable pub arityOf : Tables → ℕ → ℕ → Reader ℕ
-arityOf t zero p = refuse 12 p
-arityOf t (suc left) p = do
-  o ← index (length (t .arities))
-  give (getD (t .arities) o 0)
+unfoldable pub arityStep : Tables → ℕ → ℕ → Reader ℕ
+arityStep t zero p = refuse 12 p
+arityStep t (suc left) p = do
+  o ← index (length (t .operators))
+  give (arityAt (t .operators) o)
 
 -- n elements of a list, from `from` on
 unfoldable pub cut : ℕ → ℕ → List ℕ → List ℕ
@@ -107,9 +107,9 @@ arraysOf t zero a = []
 arraysOf t (suc n) a = arrayOf t a ∷ arraysOf t n (a + 1)
 
 unfoldable pub unpacked : Packed → Tables
-unpacked t = record { arities = cut (min (t .operators) 16) 0 (t .arities); arrays = arraysOf t (min (t .arrays) 16) 0 }
+unpacked t = record { operators = cut (min (t .operators) 16) 0 (t .bytes); arrays = arraysOf t (min (t .arrays) 16) 0 }
 
--- The walks have the tables as 115 numbers: the number of operators, 16 arities; the number of arrays, 16 roles, 16 numbers of
+-- The walks have the tables as 115 numbers: the number of operators, their 16 bytes; the number of arrays, 16 roles, 16 numbers of
 -- dimensions, 48 extents; 17 bases. An extent is a number of 16 bits, so one beyond them counts as 65,535.
 unfoldable pub capped : List ℕ → List ℕ
 capped l = map (λ e. min e 65535) l
@@ -118,7 +118,7 @@ unfoldable pub viewed : List ℕ → Packed
 viewed l =
     record {
       operators = getD l 0 0;
-      arities = cut 16 1 l;
+      bytes = cut 16 1 l;
       arrays = getD l 17 0;
       roles = cut 16 18 l;
       dimensions = cut 16 34 l;
@@ -133,7 +133,7 @@ tablesIn l = unpacked (viewed l)
 -- the 115 numbers of a `Tables`
 unfoldable pub flattened : Packed → List ℕ
 flattened t =
-    t .operators ∷ (cut 16 0 (t .arities) ++ (t .arrays ∷ (cut 16 0 (t .roles) ++ (cut 16 0 (t .dimensions) ++ (cut 48 0 (t .extents) ++ cut 17 0 (t .bases))))))
+    t .operators ∷ (cut 16 0 (t .bytes) ++ (t .arrays ∷ (cut 16 0 (t .roles) ++ (cut 16 0 (t .dimensions) ++ (cut 48 0 (t .extents) ++ cut 17 0 (t .bases))))))
 
 -- three extents an array, 0 where it has fewer dimensions
 unfoldable pub threes : List Array → List ℕ
@@ -149,8 +149,8 @@ bases b (x ∷ xs) = b ∷ bases (b + cells (x .extents)) xs
 unfoldable pub packed : Tables → Packed
 packed t =
     record {
-      operators = length (t .arities);
-      arities = padded 16 0 (t .arities);
+      operators = length (t .operators);
+      bytes = padded 16 0 (t .operators);
       arrays = length (t .arrays);
       roles = padded 16 0 (map (λ x. x .role) (t .arrays));
       dimensions = padded 16 0 (map (λ x. length (x .extents)) (t .arrays));
@@ -162,7 +162,7 @@ unfoldable pub noTables : Packed
 noTables =
     record {
       operators = 0;
-      arities = replicate 16 0;
+      bytes = replicate 16 0;
       arrays = 0;
       roles = replicate 16 0;
       dimensions = replicate 16 0;

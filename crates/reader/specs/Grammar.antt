@@ -2,11 +2,11 @@
 use Prim.Native.Nat.{ℕ, zero, suc, _+_}
 use mathlib.Core.List.{List, [], _∷_}
 use mathlib.Core.Bool.{Bool, true, false, _&&_, _||_, not}
-use lib.ListN.{length, getD}
+use lib.ListN.{length}
 use lib.Dec.{ltb, leb, eqb}
 use lib.IntN.{ℤ, pos, negsuc}
 use Rattle.model.specs.Test.{if_then_else_, within}
-use Rattle.model.specs.Tables.{Array, Tables, cells, arrayAt, local}
+use Rattle.model.specs.Tables.{Array, Tables, cells, arrayAt, local, operatorIn, arityAt}
 use Rattle.reader.specs.Field.{Outcome, got, no, Reader, andThen, _>>=_, give, refuse, here, ask, littleEndian, field, byte, u16, u32, i8, i16, times}
 use Rattle.reader.specs.Syntax.{Form, Expr, Exprs, Item, Items, Program}
 use Rattle.reader.specs.Syntax.Expr.{read, apply, literal, named}
@@ -17,6 +17,7 @@ use Rattle.reader.specs.Syntax.Items.{end, item}
 abbrev pub mark : List ℕ
 mark = 0x41 ∷ 0x4C ∷ 0x50 ∷ []
 
+-- the version, 1 or 2
 unfoldable pub head : Reader ℕ
 head = do
   p ← here
@@ -24,22 +25,22 @@ head = do
   _ ← ask 4 p (eqb m (littleEndian 3 mark 0))
   q ← here
   version ← u16
-  _ ← ask 5 q (eqb version 1)
-  give 0
+  _ ← ask 5 q (within 1 2 version)
+  give version
 
-unfoldable pub arity : Reader ℕ
-arity = do
+unfoldable pub operatorOf : ℕ → Reader ℕ
+operatorOf version = do
   p ← here
-  a ← byte
-  _ ← ask 6 p (within 1 4 a)
-  give a
+  b ← byte
+  _ ← ask 6 p (operatorIn version b)
+  give b
 
-unfoldable pub operators : Reader (List ℕ)
-operators = do
+unfoldable pub operators : ℕ → Reader (List ℕ)
+operators version = do
   p ← here
   n ← byte
   _ ← ask 6 p (leb n 16)
-  times [] _∷_ arity n
+  times [] _∷_ (operatorOf version) n
 
 unfoldable pub extent : Reader ℕ
 extent = do
@@ -70,13 +71,13 @@ arrays (suc n) after before = do
 
 unfoldable pub tables : Reader Tables
 tables = do
-  _ ← head
-  ops ← operators
+  version ← head
+  ops ← operators version
   p ← here
   n ← byte
   _ ← ask 7 p (within 1 16 n)
   xs ← arrays n false 0
-  give (record { arities = ops; arrays = xs })
+  give (record { operators = ops; arrays = xs })
 
 -- a form inside so many loops
 unfoldable pub form : ℕ → Reader Form
@@ -117,8 +118,8 @@ module _ (t : Tables) (loops : ℕ) where
   -- an operator and its arguments, each read by `one`
   unfoldable pub applyOf : Reader Expr → Reader Expr
   applyOf one = do
-    o ← index (length (t .arities))
-    es ← times none more one (getD (t .arities) o 0)
+    o ← index (length (t .operators))
+    es ← times none more one (arityAt (t .operators) o)
     give (apply o es)
 
   -- a code byte and what follows it; `applied p` reads what follows an operator's code at p

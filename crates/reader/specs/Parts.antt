@@ -14,7 +14,7 @@ use Rattle.reader.specs.declared.fields.Place.{Place}
 use Rattle.reader.specs.declared.fields.Place.the-variants as place
 use Rattle.reader.specs.declared.tables.Tables.{Tables as Packed}
 use Rattle.reader.specs.declared.tables.TablesRead.{TablesRead}
-use Rattle.reader.specs.declared.header.AritiesRead.{AritiesRead}
+use Rattle.reader.specs.declared.header.OperatorsRead.{OperatorsRead}
 use Rattle.reader.specs.declared.header.ExtentsRead.{ExtentsRead}
 use Rattle.reader.specs.declared.header.ArrayRead.{ArrayRead}
 
@@ -40,11 +40,11 @@ arrayTable = do
 
 -- with the operators read before
 unfoldable pub tablesWith : List ℕ → Outcome (List Array) → Outcome Tables
-tablesWith ops m = andThen m (λ xs next. got (record { arities = ops; arrays = xs }) next)
+tablesWith ops m = andThen m (λ xs next. got (record { operators = ops; arrays = xs }) next)
 
-unfoldable pub AritiesAre : ℕ → Outcome (List ℕ) → AritiesRead → Type 0
-AritiesAre n (got l next) r = (r .answer ≡ place.Next next) × (r .arities ≡ padded 16 0 l) × (length l ≡ n)
-AritiesAre n (no number at) r = r .answer ≡ place.Not number at
+unfoldable pub OperatorsAre : ℕ → Outcome (List ℕ) → OperatorsRead → Type 0
+OperatorsAre n (got l next) r = (r .answer ≡ place.Next next) × (r .bytes ≡ padded 16 0 l) × (length l ≡ n)
+OperatorsAre n (no number at) r = r .answer ≡ place.Not number at
 
 unfoldable pub ExtentsAre : ℕ → Outcome (List ℕ) → ExtentsRead → Type 0
 ExtentsAre n (got l next) r = (r .answer ≡ place.Next next) × (r .extents ≡ padded 3 0 l) × (length l ≡ n) × (r .size ≡ cells l) × (r .size ≤ 1073741824)
@@ -67,7 +67,7 @@ Small [] = Unit {0}
 Small (x ∷ xs) = (length (x .extents) ≤ 3) × Small xs
 
 unfoldable pub ArraysAre : ℕ → List ℕ → Outcome (List Array) → TablesRead → Type 0
-ArraysAre n ops (got xs next) r = (r .answer ≡ place.Next next) × (r .tables ≡ packed (record { arities = ops; arrays = xs })) × (length xs ≡ n) × Small xs
+ArraysAre n ops (got xs next) r = (r .answer ≡ place.Next next) × (r .tables ≡ packed (record { operators = ops; arrays = xs })) × (length xs ≡ n) × Small xs
 ArraysAre n ops (no number at) r = r .answer ≡ place.Not number at
 
 -- one array more, as number k; `total` cells with it
@@ -75,7 +75,7 @@ unfoldable pub withArray : Packed → ℕ → ArrayRead → ℕ → Packed
 withArray t k x total =
     record {
       operators = t .operators;
-      arities = t .arities;
+      bytes = t .bytes;
       arrays = k + 1;
       roles = set (t .roles) k (x .role);
       dimensions = set (t .dimensions) k (x .dimensions);

@@ -6,7 +6,7 @@ ghost use Rattle.reader.specs.Syntax.{count, counts};
 ghost use Rattle.reader.specs.Syntax.Exprs.{none as noArgs, more as moreArgs};
 ghost use Rattle.reader.specs.Grammar.{form, readOf, literalOf, constantOf, node as nodeOf, applied, expression};
 ghost use Rattle.reader.specs.Answers.{through, ended, fieldSays, placeSays};
-ghost use Rattle.reader.specs.Entries.{tablesIn, formsStep, expressionStep, leafOf, arityOf};
+ghost use Rattle.reader.specs.Entries.{tablesIn, formsStep, expressionStep, leafOf, arityStep};
 use crate::fields::Field;
 use crate::fields::Place;
 use crate::fields::byte_at;
@@ -109,7 +109,7 @@ fn leaf_end(
 
 // The arity of the operator whose code stands at `code`, and the place behind its number. 12 is asked before that is read.
 fn operator_at(s: &[u8], code: usize, at: usize, tables: &FlatTables, left: usize) -> Field
-    ensures { λ r. ⌜ fieldSays r ≡ arityOf (tablesIn (now (tables .entry))) left code (now (s .entry)) at ⌝ }
+    ensures { λ r. ⌜ fieldSays r ≡ arityStep (tablesIn (now (tables .entry))) left code (now (s .entry)) at ⌝ }
 {
     if left == 0 {
         return Field::Not(12, code);

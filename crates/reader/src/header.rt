@@ -5,11 +5,12 @@ ghost use mathlib.Core.List.{List, [], _∷_};
 ghost use mathlib.Core.Bool.{false};
 ghost use lib.ListN.{length};
 ghost use Rattle.model.specs.Test.{within};
+ghost use Rattle.model.specs.Tables.{operatorIn};
 ghost use Rattle.reader.specs.Field.{times};
-ghost use Rattle.reader.specs.Grammar.{head, arity, extent, array as arrayReader, arrays as arraysReader};
+ghost use Rattle.reader.specs.Grammar.{head, operatorOf, extent, array as arrayReader, arrays as arraysReader};
 ghost use Rattle.reader.specs.Answers.{ended, placeSays, fieldSays};
 ghost use Rattle.reader.specs.Entries.{padded, packed, noTables, tablesStep, TablesAre};
-ghost use Rattle.reader.specs.Parts.{checked, roleTest, arrayTable, tablesWith, AritiesAre, ExtentsAre, ArrayIs, ArraysAre, withArray};
+ghost use Rattle.reader.specs.Parts.{checked, roleTest, arrayTable, tablesWith, OperatorsAre, ExtentsAre, ArrayIs, ArraysAre, withArray};
 ghost use Rattle.reader.specs.declared.fields.Place.the-variants as place;
 use crate::cursor::field_at;
 use crate::fields::Field;
@@ -17,64 +18,83 @@ use crate::fields::Place;
 use crate::fields::Width;
 use crate::tables::Tables;
 use crate::tables::TablesRead;
+use model::operator::is_operator;
 use model::sizes::MOST_BYTES;
 use model::sizes::MOST_CELLS;
 
-// The mark `ALP` and version 1.
-fn head_end(s: &[u8], at: usize) -> Place
-    ensures { λ r. ⌜ placeSays r ≡ ended (head (now (s .entry)) at) ⌝ }
+// The mark `ALP` and the version, 1 or 2.
+fn head_at(s: &[u8], at: usize) -> Field
+    ensures { λ r. ⌜ fieldSays r ≡ head (now (s .entry)) at ⌝ }
 {
     match field_at(s, at, Width::Three) {
-        Field::Not(number, place) => Place::Not(number, place),
+        Field::Not(number, place) => Field::Not(number, place),
         Field::Is(mark, version) => {
             if mark != 0x50_4C_41 {
-                return Place::Not(4, at);
+                return Field::Not(4, at);
             }
             match field_at(s, version, Width::Two) {
-                Field::Not(number, place) => Place::Not(number, place),
+                Field::Not(number, place) => Field::Not(number, place),
                 Field::Is(v, next) => {
-                    if v == 1 {
-                        Place::Next(next)
-                    } else {
-                        Place::Not(5, version)
+                    if v < 1 {
+                        return Field::Not(5, version);
                     }
+                    if 2 < v {
+                        return Field::Not(5, version);
+                    }
+                    Field::Is(v, next)
                 }
             }
         }
     }
 }
 
-// Arities beside the place past them.
-struct AritiesRead {
-    answer: Place,
-    arities: [u8; 16],
+// An operator's byte.
+fn operator_byte_at(s: &[u8], at: usize, version: usize) -> Field
+    ensures { λ r. ⌜ fieldSays r ≡ checked 6 (operatorIn version) (now (s .entry)) at ⌝ }
+{
+    match field_at(s, at, Width::One) {
+        Field::Not(number, place) => Field::Not(number, place),
+        Field::Is(x, next) => {
+            if is_operator(version, x) {
+                Field::Is(x, next)
+            } else {
+                Field::Not(6, at)
+            }
+        }
+    }
 }
 
-fn arities_at(s: &[u8], at: usize, n: usize) -> AritiesRead
+// The operators' bytes beside the place past them.
+struct OperatorsRead {
+    answer: Place,
+    bytes: [u8; 16],
+}
+
+fn operators_at(s: &[u8], at: usize, version: usize, n: usize) -> OperatorsRead
     requires { ⌜ n ≤ 16 ⌝ }
-    ensures { λ r. ⌜ AritiesAre n (times [] _∷_ arity n (now (s .entry)) at) r ⌝ }
+    ensures { λ r. ⌜ OperatorsAre n (times [] _∷_ (operatorOf version) n (now (s .entry)) at) r ⌝ }
 {
-    let mut arities = [0u8; 16];
+    let mut bytes = [0u8; 16];
     let mut place = at;
     let mut k: usize = 0;
     while k < n {
-        match count_at(s, place, 6, 1, 4) {
+        match operator_byte_at(s, place, version) {
             Field::Not(number, p) => {
-                return AritiesRead {
+                return OperatorsRead {
                     answer: Place::Not(number, p),
-                    arities,
+                    bytes,
                 };
             }
             Field::Is(x, next) => {
-                arities[k] = x as u8;
+                bytes[k] = x as u8;
                 place = next;
                 k += 1;
             }
         }
     }
-    AritiesRead {
+    OperatorsRead {
         answer: Place::Next(place),
-        arities,
+        bytes,
     }
 }
 
@@ -98,7 +118,7 @@ fn role_at(s: &[u8], at: usize, after: bool) -> Field
     }
 }
 
-// A count or arity from `low` to `high`; else `number` is refused.
+// A count from `low` to `high`; else `number` is refused.
 fn count_at(s: &[u8], at: usize, number: u8, low: usize, high: usize) -> Field
     ensures { λ r. ⌜ fieldSays r ≡ checked number (within low high) (now (s .entry)) at ⌝ }
 {
@@ -242,10 +262,10 @@ fn with_array(tables: Tables, k: usize, x: ArrayRead, total: usize) -> Tables
     extents[3 * k + 2] = from[2];
     let mut bases = tables.bases;
     bases[k + 1] = total;
-    let arities = tables.arities;
+    let bytes = tables.bytes;
     Tables {
         operators: tables.operators,
-        arities,
+        bytes,
         arrays: k + 1,
         roles,
         dimensions,
@@ -257,7 +277,7 @@ fn with_array(tables: Tables, k: usize, x: ArrayRead, total: usize) -> Tables
 // n arrays, put into tables that hold none.
 fn arrays_at(s: &[u8], at: usize, n: usize, empty: Tables) -> TablesRead
     requires { ⌜ n ≤ 16 ⌝ }
-    ensures { λ r. ⌜ ((ops : List ℕ) → empty ≡ packed (record { arities = ops; arrays = [] }) → ArraysAre n ops (arraysReader n false 0 (now (s .entry)) at) r) ⌝ }
+    ensures { λ r. ⌜ ((ops : List ℕ) → empty ≡ packed (record { operators = ops; arrays = [] }) → ArraysAre n ops (arraysReader n false 0 (now (s .entry)) at) r) ⌝ }
 {
     let mut tables = empty;
     let mut after = false;
@@ -296,7 +316,7 @@ fn no_tables(number: u8, at: usize) -> TablesRead
         answer: Place::Not(number, at),
         tables: Tables {
             operators: 0,
-            arities: [0u8; 16],
+            bytes: [0u8; 16],
             arrays: 0,
             roles: [0u8; 16],
             dimensions: [0u8; 16],
@@ -307,15 +327,15 @@ fn no_tables(number: u8, at: usize) -> TablesRead
 }
 
 // The array table, behind an operator table that was read.
-fn arrays_of(s: &[u8], at: usize, operators: usize, arities: [u8; 16]) -> TablesRead
-    ensures { λ r. ⌜ ((ops : List ℕ) → length ops ≡ operators → length ops ≤ 16 → arities ≡ padded 16 0 ops → TablesAre (tablesWith ops (arrayTable (now (s .entry)) at)) r) ⌝ }
+fn arrays_of(s: &[u8], at: usize, operators: usize, bytes: [u8; 16]) -> TablesRead
+    ensures { λ r. ⌜ ((ops : List ℕ) → length ops ≡ operators → length ops ≤ 16 → bytes ≡ padded 16 0 ops → TablesAre (tablesWith ops (arrayTable (now (s .entry)) at)) r) ⌝ }
 {
     match count_at(s, at, 7, 1, 16) {
         Field::Not(number, place) => no_tables(number, place),
         Field::Is(n, next) => {
             let empty = Tables {
                 operators,
-                arities,
+                bytes,
                 arrays: 0,
                 roles: [0u8; 16],
                 dimensions: [0u8; 16],
@@ -339,17 +359,17 @@ pub fn tables_of(program: &[u8]) -> TablesRead
     if MOST_BYTES < program.len() {
         return no_tables(2, 0);
     }
-    match head_end(program, 0) {
-        Place::Not(number, place) => no_tables(number, place),
-        Place::Next(at) => match count_at(program, at, 6, 0, 16) {
+    match head_at(program, 0) {
+        Field::Not(number, place) => no_tables(number, place),
+        Field::Is(version, at) => match count_at(program, at, 6, 0, 16) {
             Field::Not(number, place) => no_tables(number, place),
             Field::Is(n, next) => {
-                let read = arities_at(program, next, n);
+                let read = operators_at(program, next, version, n);
                 let answer = read.answer;
-                let arities = read.arities;
+                let bytes = read.bytes;
                 match answer {
                     Place::Not(number, place) => no_tables(number, place),
-                    Place::Next(end) => arrays_of(program, end, n, arities),
+                    Place::Next(end) => arrays_of(program, end, n, bytes),
                 }
             }
         },

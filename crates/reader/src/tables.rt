@@ -4,11 +4,12 @@ ghost use mathlib.Core.Path.{_≡_};
 ghost use Prim.Native.Nat.{ℕ, _+_, _≤_, _<_, min};
 ghost use lib.ListN.{length, getD};
 ghost use lib.Seq.{sets};
-ghost use Rattle.model.specs.Tables.{arrayAt};
+ghost use Rattle.model.specs.Tables.{arrayAt, arityAt};
 ghost use Rattle.reader.specs.Entries.{cut, viewed, tablesIn, flattened};
 use crate::fields::Place;
 use model::byte::wide;
 use model::numbers::least;
+use model::operator::arity;
 
 // Numbers of tables that are lent as one array (`viewed` says which stand where), and where the bases begin.
 pub const FLAT: usize = 115;
@@ -17,11 +18,11 @@ pub const BASES: usize = 98;
 
 pub type FlatTables = [usize; FLAT];
 
-// Entries beyond the counts are 0. The extents of array a stand at 3a; bases[a] is the number of cells before array a,
-// bases[arrays] that of all.
+// Entries beyond the counts are 0. bytes[o] is the byte of operator o; the extents of array a stand at 3a; bases[a] is the number
+// of cells before array a, bases[arrays] that of all.
 pub struct Tables {
     pub operators: usize,
-    pub arities: [u8; 16],
+    pub bytes: [u8; 16],
     pub arrays: usize,
     pub roles: [u8; 16],
     pub dimensions: [u8; 16],
@@ -78,14 +79,14 @@ pub fn flat(tables: Tables) -> FlatTables
     ensures numbers { λ r. ⌜ r ≡ flattened «tables» ⌝ }
     ensures small { λ _. ⌜ ((i : ℕ) → i < 48 → getD («tables» .extents) i 0 < 65536) ⌝ }
 {
-    let arities = tables.arities;
+    let bytes = tables.bytes;
     let roles = tables.roles;
     let dimensions = tables.dimensions;
     let extents = tables.extents;
     let bases = tables.bases;
     let mut r = [0usize; FLAT];
     r[0] = tables.operators;
-    put_bytes(&mut r, 1, arities);
+    put_bytes(&mut r, 1, bytes);
     r[17] = tables.arrays;
     put_bytes(&mut r, 18, roles);
     put_bytes(&mut r, 34, dimensions);
@@ -95,7 +96,7 @@ pub fn flat(tables: Tables) -> FlatTables
 }
 
 pub fn operator_count(tables: &FlatTables) -> usize
-    ensures { λ r. ⌜ r ≡ length (tablesIn (now (tables .entry)) .arities) ⌝ }
+    ensures { λ r. ⌜ r ≡ length (tablesIn (now (tables .entry)) .operators) ⌝ }
 {
     least(tables[0], 16)
 }
@@ -108,10 +109,10 @@ pub fn array_count(tables: &FlatTables) -> usize
 
 // The arity of an operator; 0 where it is not declared.
 pub fn arity_of(tables: &FlatTables, operator: usize) -> usize
-    ensures { λ r. ⌜ r ≡ getD (tablesIn (now (tables .entry)) .arities) operator 0 ⌝ }
+    ensures { λ r. ⌜ r ≡ arityAt (tablesIn (now (tables .entry)) .operators) operator ⌝ }
 {
     if operator < operator_count(tables) {
-        tables[1 + operator]
+        arity(tables[1 + operator])
     } else {
         0
     }

@@ -1,4 +1,4 @@
-pub mod Same
+pub mod Alike
 pub mod Count
 pub mod Walks
 pub mod Words
@@ -6,6 +6,7 @@ pub mod Cases
 pub mod Chains
 pub mod Nodes
 pub mod Trees
+pub mod Sorted
 pub mod Sets
 pub mod Members
 pub mod Laws

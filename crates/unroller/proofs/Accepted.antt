@@ -11,7 +11,7 @@ use lib.IntN.{ℤ, pos, negsuc}
 use lib.Signed.{leZ}
 use borrow.Author.Tests.{leb-true, ltb-true, le-leb, lt-ltb}
 use Rattle.model.specs.Test.{if_then_else_, within, every, total}
-use Rattle.model.specs.Tables.{Array, Tables, cells, arrayAt, local, inside}
+use Rattle.model.specs.Tables.{Array, Tables, cells, arrayAt, local, inside, operatorIn, operatorByte, arityAt}
 use Rattle.model.specs.Update.{Tree, Trees, Update, Listed, size, sizes, nodes}
 use Rattle.model.specs.Update.Tree.{cell, number, constant, operator}
 use Rattle.model.specs.Update.Trees.{nil, cons}
@@ -26,8 +26,9 @@ use Rattle.unroller.specs.Allowed.{localsLast, allowedArray, proper, pro
 use Rattle.unroller.specs.Unroll.{unrolled}
 use Rattle.unroller.specs.Fits.{fits8, narrow}
 use Rattle.unroller.proofs.Parts.{both, join, array-whole, room, TablesParts, ListParts, list-whole, nodes-snoc}
+use Rattle.model.proofs.Operators.{in-version}
 use Rattle.reader.proofs.Binds.{read-by, asked-by, choose-by, got-is}
-use Rattle.reader.specs.Grammar.{head, arity, operators, extent, array, arrays, tables, form, subscripts, index, readOf, literalOf, constantOf, applyOf, node, applied, expression, statementOf, loopOf, guardOf, step, items, itemOf, nested, body, program, readProgram}
+use Rattle.reader.specs.Grammar.{head, operatorOf, operators, extent, array, arrays, tables, form, subscripts, index, readOf, literalOf, constantOf, applyOf, node, applied, expression, statementOf, loopOf, guardOf, step, items, itemOf, nested, body, program, readProgram}
 use Rattle.unroller.proofs.Fits.{indices-fit, forms-fit, fits8-toZ, fits16-toZ}
 use Rattle.unroller.proofs.Runs.{run-by, ask-by, ok-is, Unrolls, unrolls, unrolled-reads}
 
@@ -45,7 +46,7 @@ module _ (Name : ℕ → Type 0) where
     pub Sound : Expr → Tables → ℕ → Type 0
     Sound (read a fs) t left = (length fs ≡ length (arrayAt (t .arrays) a .extents)) × (every narrow fs ≡ true)
     Sound (apply o es) t zero = ⊥
-    Sound (apply o es) t (suc left) = (o < length (t .arities)) × SoundAll es t left (getD (t .arities) o 0)
+    Sound (apply o es) t (suc left) = (o < length (t .operators)) × SoundAll es t left (arityAt (t .operators) o)
     Sound (literal f) t left = narrow f ≡ true
     Sound (named n) t left = Name n
 
@@ -115,7 +116,7 @@ module _ (Name : ℕ → Type 0) (t : Tables) (p : ℕ) (is : List ℤ) where
     tree-declared (apply o es) zero x s r = absurd s
     tree-declared (apply o es) (suc left) x s r =
         run-by (trees es t p is) _ r λ xs e1 r1.
-        ok-is (λ x. Declared x t) r1 (trees-declared es left (getD (t .arities) o 0) xs (s .1) e1)
+        ok-is (λ x. Declared x t) r1 (trees-declared es left (arityAt (t .operators) o) xs (s .1) e1)
     tree-declared (literal f) left x s r = ok-is (λ x. Declared x t) r tt
     tree-declared (named n) left x s r = ok-is (λ x. Declared x t) r tt
 
@@ -145,8 +146,8 @@ module _ (t : Tables) (p : ℕ) (is : List ℤ) (fit : every fits16 is ≡ true)
     tree-proper (apply o es) zero x s r = absurd s
     tree-proper (apply o es) (suc left) x s r =
         run-by (trees es t p is) _ r λ xs e1 r1.
-        let q = trees-proper es left (getD (t .arities) o 0) xs (s .1) e1 in
-        ok-is (Proper (suc left) (suc (counts es))) r1 (join (ltb o (length (t .arities))) (propers xs t left (getD (t .arities) o 0)) (lt-ltb o (length (t .arities)) (s .0)) (q .0), ap suc (q .1))
+        let q = trees-proper es left (arityAt (t .operators) o) xs (s .1) e1 in
+        ok-is (Proper (suc left) (suc (counts es))) r1 (join (ltb o (length (t .operators))) (propers xs t left (arityAt (t .operators) o)) (lt-ltb o (length (t .operators)) (s .0)) (q .0), ap suc (q .1))
     tree-proper (literal f) left x s r = ok-is (Proper left 1) r (forms-fit f is s fit, refl)
     tree-proper (named n) left x s r = ok-is (Proper left 1) r (lt-ltb n 4294967296 s, refl)
 
@@ -246,12 +247,13 @@ module _ {A : Type 0} where
       read-by (times [] _∷_ one n s at1) _ r1 λ xs at2 e2 r2.
       got-is (λ xs. every test xs ≡ true) r2 (join (test x) (every test xs) (h s at x at1 e1) (times-every one test h n s at1 e2))
 
-arity-within : (s : List ℕ) (at x next : ℕ) → arity s at ≡ got x next → within 1 4 x ≡ true
-unfolding arity
-arity-within s at x next e =
+-- a byte that a file of some version may have
+operator-byte : (version : ℕ) (s : List ℕ) (at x next : ℕ) → operatorOf version s at ≡ got x next → operatorByte x ≡ true
+unfolding operatorOf
+operator-byte version s at x next e =
     read-by (byte s at) _ e λ x at1 _ r1.
-    asked-by 6 at (within 1 4 x) s at1 _ r1 λ h r2.
-    got-is (λ x. within 1 4 x ≡ true) r2 h
+    asked-by 6 at (operatorIn version x) s at1 _ r1 λ h r2.
+    got-is (λ x. operatorByte x ≡ true) r2 (in-version version x h)
 
 extent-within : (s : List ℕ) (at x next : ℕ) → extent s at ≡ got x next → within 1 1024 x ≡ true
 unfolding extent
@@ -305,18 +307,18 @@ arrays-read (suc n) after before s at h e =
 pub tables-allowed : (s : List ℕ) (at : ℕ) {t : Tables} {next : ℕ} → tables s at ≡ got t next → TablesParts t
 unfolding tables operators
 tables-allowed s at e =
-    read-by (head s at) _ e λ _ at1 _ r1.
-    read-by (operators s at1) _ r1 λ ops at2 e2 r2.
+    read-by (head s at) _ e λ version at1 _ r1.
+    read-by (operators version s at1) _ r1 λ ops at2 e2 r2.
     read-by (byte s at2) _ r2 λ n at3 _ r3.
     asked-by 7 at2 (within 1 16 n) s at3 _ r3 λ w r4.
     read-by (arrays n false 0 s at3) _ r4 λ xs at4 e4 r5.
     read-by (byte s at1) _ e2 λ m at5 _ r6.
     asked-by 6 at1 (leb m 16) s at5 _ r6 λ v r7.
     let q = arrays-read n false 0 s at3 (omega arith) e4 in
-    let l = times-length arity m s at5 r7 in
+    let l = times-length (operatorOf version) m s at5 r7 in
     got-is TablesParts r5 (record {
       operators = join (leb 0 (length ops)) (leb (length ops) 16) (le-leb 0 (length ops) (omega arith)) (rw l v);
-      arity = times-every arity (within 1 4) arity-within m s at5 r7;
+      bytes = times-every (operatorOf version) operatorByte (operator-byte version) m s at5 r7;
       count = rw (q .0) w;
       each = q .1;
       order = q .2;
@@ -402,9 +404,9 @@ module _ (Name : ℕ → Type 0) (t : Tables) (loops : ℕ) (s : List ℕ) (name
       → (at : ℕ) (e : Expr) (next : ℕ) → applyOf t loops one s at ≡ got e next → Sound Name e t (suc left)
   unfolding applyOf Sound
   apply-sound left one h at e next r =
-      read-by (index (length (t .arities)) s at) _ r λ o at1 e1 r1.
-      read-by (times none more one (getD (t .arities) o 0) s at1) _ r1 λ es at2 e2 r2.
-      got-is (λ e. Sound Name e t (suc left)) r2 (index-below (length (t .arities)) s at e1, arguments-sound left one h (getD (t .arities) o 0) at1 es at2 e2)
+      read-by (index (length (t .operators)) s at) _ r λ o at1 e1 r1.
+      read-by (times none more one (arityAt (t .operators) o) s at1) _ r1 λ es at2 e2 r2.
+      got-is (λ e. Sound Name e t (suc left)) r2 (index-below (length (t .operators)) s at e1, arguments-sound left one h (arityAt (t .operators) o) at1 es at2 e2)
 
   pub node-sound : (left : ℕ) (operates : ℕ → Reader Expr) → ((p at : ℕ) (e : Expr) (next : ℕ) → operates p s at ≡ got e next → Sound Name e t left)
       → (at : ℕ) (e : Expr) (next : ℕ) → node t loops operates s at ≡ got e next → Sound Name e t left

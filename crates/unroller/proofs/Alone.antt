@@ -8,7 +8,7 @@ use lib.ListN.{length, getD}
 use lib.Dec.{leb, ltb, eqb}
 use borrow.Author.Tests.{le-leb}
 use Rattle.model.specs.Test.{if_then_else_}
-use Rattle.model.specs.Tables.{Tables, arrayAt}
+use Rattle.model.specs.Tables.{Tables, arrayAt, arityAt}
 use Rattle.reader.specs.Field.{Outcome, got, no, Reader, andThen, ask, refuse, littleEndian, field, byte, u16, u32, i8, i16, times}
 use Rattle.reader.specs.Syntax.{Expr}
 use Rattle.reader.specs.Syntax.Exprs.{none, more}
@@ -138,9 +138,9 @@ module _ (s w : List ℕ) (from : ℕ) (same : (i : ℕ) → i < length w → ge
       unfolding applied applyOf
       same-applied zero p p′ j = same-no 12 p j (no 12 p′)
       same-applied (suc left) p p′ j =
-          same-then (index (length (t .arities)) s (from + j)) (index (length (t .arities)) w j) _ _ j (same-index (length (t .arities)) j) λ o k.
-          same-then (times none more (node t loops (applied t loops left)) (getD (t .arities) o 0) s (from + k)) (times none more (node t loops (applied t loops left)) (getD (t .arities) o 0) w k) _ _ k
-          (same-times none more (node t loops (applied t loops left)) (node t loops (applied t loops left)) (same-node (applied t loops left) (applied t loops left) (λ p p′ j. same-applied left p p′ j)) (getD (t .arities) o 0) k) λ es m. same-got _ m
+          same-then (index (length (t .operators)) s (from + j)) (index (length (t .operators)) w j) _ _ j (same-index (length (t .operators)) j) λ o k.
+          same-then (times none more (node t loops (applied t loops left)) (arityAt (t .operators) o) s (from + k)) (times none more (node t loops (applied t loops left)) (arityAt (t .operators) o) w k) _ _ k
+          (same-times none more (node t loops (applied t loops left)) (node t loops (applied t loops left)) (same-node (applied t loops left) (applied t loops left) (λ p p′ j. same-applied left p p′ j)) (arityAt (t .operators) o) k) λ es m. same-got _ m
 
       pub same-statement : (p j : ℕ) → Same j (statementOf t loops p s (from + j)) (statementOf t loops p w j)
       unfolding statementOf expression

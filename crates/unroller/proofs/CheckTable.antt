@@ -11,9 +11,9 @@ use borrow.Author.Tests.{lt-ltb, le-ltb, lt-leb, le-leb, ltb-true, ltb-false, eq
 use Rattle.model.specs.Test.{within}
 use Rattle.model.specs.Tables.{Array, cells, arrayAt}
 use Rattle.unroller.specs.Words.{Out, got, none, andThen, zeros}
-use Rattle.unroller.specs.Decode.{arities, array, arrays, tables}
+use Rattle.unroller.specs.Decode.{operators, array, arrays, tables}
 use Rattle.unroller.specs.State.{nowhere, stateOf, stateAt, spot, State, Small, Filled}
-use Rattle.unroller.specs.CheckAnswers.{Declares, Arrays, Arities, Zeros, Header}
+use Rattle.unroller.specs.CheckAnswers.{Declares, Arrays, Operators, Zeros, Header}
 use Rattle.unroller.specs.declared.lists.Declared.{Declared}
 use Rattle.unroller.specs.declared.lists.Declared.the-variants.{Is, Not}
 use Rattle.unroller.proofs.CheckWords.{at-one, within-true, within-low, within-high}
@@ -221,12 +221,12 @@ module _ (s : List ℕ) (n m : ℕ) (h : 98 ≤ length s) (en : n ≡ getD s 0 0
   head-count l = start ∙ rw (within-high 0 16 n l)
 
   module _ (l : n ≤ 16) where
-    pub head-arities : (r : Bool) → r ≡ false → Arities s 1 n r → tables s ≡ none
+    pub head-operators : (r : Bool) → r ≡ false → Operators s 1 n r → tables s ≡ none
     unfolding tables
-    head-arities false e a = start ∙ rw (within-true 0 16 n (omega arith) l, a)
-    head-arities true e a = absurd (let z : _≡_ {A = ℕ} 0 1 = cc in omega arith)
+    head-operators false e a = start ∙ rw (within-true 0 16 n (omega arith) l, a)
+    head-operators true e a = absurd (let z : _≡_ {A = ℕ} 0 1 = cc in omega arith)
 
-    module _ (a : arities n (drop 1 s) ≡ got (take n (drop 1 s)) (drop (1 + n) s)) where
+    module _ (a : operators n (drop 1 s) ≡ got (take n (drop 1 s)) (drop (1 + n) s)) where
       pub head-blank : (r : Bool) → r ≡ false → Zeros s (1 + n) (16 - n) r → tables s ≡ none
       unfolding tables
       head-blank false e z = start ∙ rw (within-true 0 16 n (omega arith) l, a, z)
@@ -254,12 +254,12 @@ module _ (s : List ℕ) (n m : ℕ) (h : 98 ≤ length s) (en : n ≡ getD s 0 0
           unfolding tables
           head-all st (xs, e, sm, state) true b =
               let j : 18 + 5 * m + 5 * (16 - m) ≡ 98 = omega arith in
-              (record { arities = take n (drop 1 s); arrays = xs }, start ∙ rw (within-true 0 16 n (omega arith) l, a, z17, within-true 1 16 m ml mh, e, b, j), rw en at l, rw en, sm, state)
+              (record { operators = take n (drop 1 s); arrays = xs }, start ∙ rw (within-true 0 16 n (omega arith) l, a, z17, within-true 1 16 m ml mh, e, b, j), rw en at l, rw en, sm, state)
           head-all st (xs, e, sm, state) false b = start ∙ rw (within-true 0 16 n (omega arith) l, a, z17, within-true 1 16 m ml mh, e, b)
 
-pub arities-true : (s : List ℕ) (p n : ℕ) (r : Bool) → r ≡ true → Arities s p n r → arities n (drop p s) ≡ got (take n (drop p s)) (drop (p + n) s)
-arities-true s p n true e a = a
-arities-true s p n false e a = absurd (let z : _≡_ {A = ℕ} 0 1 = cc in omega arith)
+pub operators-true : (s : List ℕ) (p n : ℕ) (r : Bool) → r ≡ true → Operators s p n r → operators n (drop p s) ≡ got (take n (drop p s)) (drop (p + n) s)
+operators-true s p n true e a = a
+operators-true s p n false e a = absurd (let z : _≡_ {A = ℕ} 0 1 = cc in omega arith)
 
 pub zeros-true : (s : List ℕ) (p n : ℕ) (r : Bool) → r ≡ true → Zeros s p n r → zeros n (drop p s) ≡ got 0 (drop (p + n) s)
 zeros-true s p n true e a = a

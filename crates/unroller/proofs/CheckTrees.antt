@@ -1,5 +1,5 @@
 -- An expression, node by node, and its arguments as a loop takes them.
-use mathlib.Core.Path.{_≡_, refl, _∙_, subst}
+use mathlib.Core.Path.{_≡_, refl, ap, _∙_, subst}
 use Prim.Native.Nat.{ℕ, zero, suc, _+_, _-_, _<_, _≤_}
 use mathlib.Core.List.{List, [], _∷_}
 use mathlib.Core.Bool.{Bool, true, false}
@@ -10,6 +10,7 @@ use borrow.Author.Tests.{lt-ltb, le-ltb, ne-eqb}
 use mir.Syntax.{w32}
 use mir.Val.{toZ}
 use Rattle.model.specs.Test.{if_then_else_}
+use Rattle.model.specs.Tables.{arityAt}
 use Rattle.model.specs.Update.{Tree, size, sizes}
 use Rattle.model.specs.Update.Tree.{cell, number, constant, operator}
 use Rattle.model.specs.Update.Trees.{nil, cons}
@@ -96,14 +97,16 @@ module _ (ops : List ℕ) (reads : ℕ → ℕ → Bool) (s : List ℕ) where
   operator-unknown at (suc left) o h = rw (le-ltb _ _ h)
 
   operator-do : (at left m o : ℕ) (r : Answer) → left ≡ suc m → o < length ops →
-      ReadsAll s at (times nil cons (expr ops reads m) (getD ops o 0) (drop at s)) r → Follows s at (operates ops reads left o (drop at s)) r
+      ReadsAll s at (times nil cons (expr ops reads m) (arityAt ops o) (drop at s)) r → Follows s at (operates ops reads left o (drop at s)) r
   unfolding operates applied expr size
   operator-do at left m o (Got next) e h (ts, q, w) = (operator o ts, rw (e, lt-ltb _ _ h, q), omega arith)
   operator-do at left m o No e h q = rw (e, lt-ltb _ _ h, q)
 
-  pub operator-some : (at left m k o : ℕ) (r : Answer) → left ≡ suc m → k ≡ o → k < length ops →
-      ReadsAll s at (times nil cons (expr ops reads m) (getD ops k 0) (drop at s)) r → Follows s at (operates ops reads left o (drop at s)) r
-  operator-some at left m k o r e f h q = operator-do at left m o r e (subst (λ (i : ℕ). i < length ops) f h) (rw f at q)
+  pub operator-some : (at left m k o n : ℕ) (r : Answer) → left ≡ suc m → k ≡ o → k < length ops → n ≡ arityAt ops k →
+      ReadsAll s at (times nil cons (expr ops reads m) n (drop at s)) r → Follows s at (operates ops reads left o (drop at s)) r
+  operator-some at left m k o n r e f h w q =
+      operator-do at left m o r e (subst (λ (i : ℕ). i < length ops) f h)
+      (subst (λ (j : ℕ). ReadsAll s at (times nil cons (expr ops reads m) j (drop at s)) r) (w ∙ ap (arityAt ops) f) q)
 
   -- arguments
   module _ (left : ℕ) where

@@ -76,7 +76,7 @@ module _ (t : Tables) (before : List Update) (w : List ℕ) where
   ups-full zero z e = rw z
   ups-full (suc left) z e = absurd (omega arith)
 
-  module _ (z : allZero w ≡ false) (o : Out Update) (e : update (t .arities) (mayWrite (t .arrays)) (mayRead (t .arrays) before) (nodes before) w ≡ o) where
+  module _ (z : allZero w ≡ false) (o : Out Update) (e : update (t .operators) (mayWrite (t .arrays)) (mayRead (t .arrays) before) (nodes before) w ≡ o) where
     ups-stop : (left : ℕ) → o ≡ none → updates t left before w ≡ none
     unfolding updates
     ups-stop zero q = rw z
@@ -86,8 +86,8 @@ module _ (t : Tables) (before : List Update) (w : List ℕ) where
     unfolding updates
     ups-step left m u v l q = rw (l, z, e, q)
 
-same-update : (t : Tables) (ops : List ℕ) (before : List Update) (st : List ℕ) (count : ℕ) (w : List ℕ) → t .arities ≡ ops → Small (t .arrays) → State (t .arrays) before st →
-    count ≡ nodes before → update (t .arities) (mayWrite (t .arrays)) (mayRead (t .arrays) before) (nodes before) w ≡ update ops (writableIn st) (readableIn st) count w
+same-update : (t : Tables) (ops : List ℕ) (before : List Update) (st : List ℕ) (count : ℕ) (w : List ℕ) → t .operators ≡ ops → Small (t .arrays) → State (t .arrays) before st →
+    count ≡ nodes before → update (t .operators) (mayWrite (t .arrays)) (mayRead (t .arrays) before) (nodes before) w ≡ update ops (writableIn st) (readableIn st) count w
 same-update t ops before st count w a small state c =
     λ i. update (a i) (writes-same (t .arrays) before st small state i) (reads-same (t .arrays) before st small state i) (sym c i) w
 
@@ -95,7 +95,7 @@ same-update t ops before st count w a small state c =
 pub record Going (s ops st₀ st : List ℕ) (at left count : ℕ) : Type 0 where
   pub before : List Update
   pub counted : count ≡ nodes before
-  pub same : (t : Tables) → t .arities ≡ ops → Small (t .arrays) → State (t .arrays) [] st₀ → (State (t .arrays) before st) × (updates t left before (drop at s) ≡ updates t 2048 [] (drop 98 s))
+  pub same : (t : Tables) → t .operators ≡ ops → Small (t .arrays) → State (t .arrays) [] st₀ → (State (t .arrays) before st) × (updates t left before (drop at s) ≡ updates t 2048 [] (drop 98 s))
 
 pub going-start : (s ops st : List ℕ) → Going s ops st st 98 2048 0
 going-start s ops st = record { before = []; counted = refl; same = λ t a m z. (z, refl) }

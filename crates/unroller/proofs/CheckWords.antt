@@ -10,9 +10,10 @@ use lib.Seq.{drop-cons}
 use lib.Dec.{leb}
 use borrow.Author.Tests.{lt-leb, le-leb, ne-eqb}
 use Rattle.model.specs.Test.{within}
+use Rattle.model.specs.Tables.{operatorByte}
 use Rattle.unroller.specs.Words.{times, zeros, allZero}
-use Rattle.unroller.specs.Decode.{arities}
-use Rattle.unroller.specs.CheckAnswers.{Zeros, Arities}
+use Rattle.unroller.specs.Decode.{operators}
+use Rattle.unroller.specs.CheckAnswers.{Zeros, Operators}
 
 module _ (s : List ℕ) where
   pub at-one : (p : ℕ) → p < length s → drop p s ≡ getD s p 0 ∷ drop (p + 1) s
@@ -50,21 +51,21 @@ module _ (s : List ℕ) where
       let g : p + n ≡ q + m = omega arith in rw (g, e, at-one p h, x, ← f) z
   zeros-step p n q m h e f x false z = rw (e, at-one p h, x, ← f) z
 
-  -- arities
-  pub arities-end : (p n : ℕ) → n ≡ 0 → Arities s p n true
-  unfolding arities times
-  arities-end p n h = let e : p + 0 ≡ p = omega arith in rw (h, e)
+  -- operators
+  pub operators-end : (p n : ℕ) → n ≡ 0 → Operators s p n true
+  unfolding operators times
+  operators-end p n h = let e : p + 0 ≡ p = omega arith in rw (h, e)
 
-  pub arities-stop : (p n : ℕ) → p < length s → 0 < n → within 1 4 (getD s p 0) ≡ false → Arities s p n false
-  unfolding arities times
-  arities-stop p zero h w x = absurd (omega arith)
-  arities-stop p (suc n) h w x = rw (at-one p h, x)
+  pub operators-stop : (p n : ℕ) → p < length s → 0 < n → operatorByte (getD s p 0) ≡ false → Operators s p n false
+  unfolding operators times
+  operators-stop p zero h w x = absurd (omega arith)
+  operators-stop p (suc n) h w x = rw (at-one p h, x)
 
-  pub arities-step : (p n q m : ℕ) → p < length s → n ≡ suc m → q ≡ p + 1 → within 1 4 (getD s p 0) ≡ true → (r : Bool) → Arities s q m r → Arities s p n r
-  unfolding arities times
-  arities-step p n q m h e f x true z =
+  pub operators-step : (p n q m : ℕ) → p < length s → n ≡ suc m → q ≡ p + 1 → operatorByte (getD s p 0) ≡ true → (r : Bool) → Operators s q m r → Operators s p n r
+  unfolding operators times
+  operators-step p n q m h e f x true z =
       let g : p + n ≡ q + m = omega arith in rw (g, e, at-one p h, x, ← f, z)
-  arities-step p n q m h e f x false z = rw (e, at-one p h, x, ← f, z)
+  operators-step p n q m h e f x false z = rw (e, at-one p h, x, ← f, z)
 
 pub within-true : (l h x : ℕ) → l ≤ x → x ≤ h → within l h x ≡ true
 within-true l h x a b = simp (le-leb _ _ a, le-leb _ _ b)
@@ -83,8 +84,8 @@ module _ (s : List ℕ) where
   pub zeros-same : (p n q m : ℕ) → q ≡ p → m ≡ n → (r : Bool) → Zeros s q m r → Zeros s p n r
   zeros-same p n q m e f r z = rw (e, f) at z
 
-  pub arities-same : (p n q m : ℕ) → q ≡ p → m ≡ n → (r : Bool) → Arities s q m r → Arities s p n r
-  arities-same p n q m e f r z = rw (e, f) at z
+  pub operators-same : (p n q m : ℕ) → q ≡ p → m ≡ n → (r : Bool) → Operators s q m r → Operators s p n r
+  operators-same p n q m e f r z = rw (e, f) at z
 
   pub ended-past : (p : ℕ) → length s ≤ p → true ≡ allZero (drop p s)
   unfolding allZero zeros

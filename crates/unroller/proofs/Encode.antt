@@ -5,14 +5,14 @@ use mathlib.Core.List.{List, [], _∷_, _++_, append-nil, append-assoc}
 use mathlib.Core.Bool.{Bool, true, false, _&&_, _||_, not, false≢true}
 use native.Mathlib.Omega.{arith}
 use mathlib.Core.Option.{Option, some}
-use lib.ListN.{length, getD, replicate, length-replicate, length-append}
+use lib.ListN.{length, replicate, length-replicate, length-append}
 use lib.Dec.{eqb, leb, ltb}
 use borrow.Author.Tests.{lt-ltb, le-leb}
 use mir.Syntax.{w32}
 use mir.Val.{toZ, ofZ}
 use mir.Facts.{toZ-ofZ, fits-ofZ}
 use Rattle.model.specs.Test.{if_then_else_, within, every}
-use Rattle.model.specs.Tables.{Array, Tables, cells, arrayAt, local, starts, inside}
+use Rattle.model.specs.Tables.{Array, Tables, cells, arrayAt, local, starts, inside, operatorByte, arityAt}
 use Rattle.model.specs.Update.{Tree, Trees, Update, Listed, size, nodes, written}
 use Rattle.model.specs.Update.Tree.{cell, number, constant, operator}
 use Rattle.model.specs.Update.Trees.{nil, cons}
@@ -20,7 +20,7 @@ use Rattle.unroller.specs.Run.{readable, readables}
 use Rattle.unroller.specs.Words.{Out, got, none, Reader, andThen, give, word, ask, times, zeros, isGot, allZero}
 use Rattle.unroller.specs.Allowed.{localsLast, allowedArray, proper, propers, mayWrite, allowedUpdate, readAll, allowed}
 use Rattle.unroller.specs.Layout.{padded, arrayWords, arraysWords, tableWords, treeWords, treesWords, updateWords, updatesWords, words, layout}
-use Rattle.unroller.specs.Decode.{between, arities, extents, array, arrays, tables, mayRead, applied, node, operates, expr, update, updates, list, decode}
+use Rattle.unroller.specs.Decode.{tested, operators, extents, array, arrays, tables, mayRead, applied, node, operates, expr, update, updates, list, decode}
 use Rattle.unroller.proofs.Parts.{both, join, within-high, ArrayParts, array-parts, room, TablesParts, ListParts, list-parts, signed-fits, nodes-snoc}
 
 zeros-in : (n : ℕ) (rest : List ℕ) → zeros n (replicate n 0 ++ rest) ≡ got 0 rest
@@ -37,15 +37,15 @@ all-zero n =
     let z = rw p at (zeros-in n []) in
     rw (e, z)
 
-between-in : (low high : ℕ) (l rest : List ℕ) → every (within low high) l ≡ true → times [] _∷_ (between low high) (length l) (l ++ rest) ≡ got l rest
+tested-in : (test : ℕ → Bool) (l rest : List ℕ) → every test l ≡ true → times [] _∷_ (tested test) (length l) (l ++ rest) ≡ got l rest
 unfolding times
-between-in low high [] rest a = refl
-between-in low high (x ∷ l) rest a = let p = both (within low high x) (every (within low high) l) a in rw (p .0, between-in low high l rest (p .1))
+tested-in test [] rest a = refl
+tested-in test (x ∷ l) rest a = let p = both (test x) (every test l) a in rw (p .0, tested-in test l rest (p .1))
 
 array-in : (x : Array) (rest : List ℕ) → ArrayParts x → array (arrayWords x ++ rest) ≡ got x rest
 unfolding array extents
 array-in x rest a =
-    let b = between-in 1 1024 (x .extents) (replicate (3 - length (x .extents)) 0 ++ rest) (a .sizes-known) in
+    let b = tested-in (within 1 1024) (x .extents) (replicate (3 - length (x .extents)) 0 ++ rest) (a .sizes-known) in
     let z = zeros-in (3 - length (x .extents)) rest in
     rw (a .role-known, a .dimensions, append-assoc (x .extents) (replicate (3 - length (x .extents)) 0) rest, b, z)
 
@@ -80,15 +80,15 @@ arrays-length (x ∷ xs) a =
     omega arith
 
 tables-in : (t : Tables) (rest : List ℕ) → TablesParts t → tables (tableWords t ++ rest) ≡ got t rest
-unfolding tables tableWords arities
+unfolding tables tableWords operators
 tables-in t rest a =
-    let n = length (t .arities) in
+    let n = length (t .operators) in
     let m = length (t .arrays) in
     let l = arrays-length (t .arrays) (a .each) in
     let fits = a .fits in
     let j : 80 - length (arraysWords (t .arrays)) ≡ 5 * (16 - m) = omega arith in
     let tail = replicate (5 * (16 - m)) 0 ++ rest in
-    let q = between-in 1 4 (t .arities) (replicate (16 - n) 0 ++ (m ∷ (arraysWords (t .arrays) ++ tail))) (a .arity) in
+    let q = tested-in operatorByte (t .operators) (replicate (16 - n) 0 ++ (m ∷ (arraysWords (t .arrays) ++ tail))) (a .bytes) in
     let z = zeros-in (16 - n) (m ∷ (arraysWords (t .arrays) ++ tail)) in
     let x = arrays-in (t .arrays) false 0 tail (a .each) (a .order) (omega arith) in
     let y = zeros-in (5 * (16 - m)) rest in
@@ -100,7 +100,7 @@ module _ (t : Tables) (before : List Update) where
     unfolding expr node treeWords treesWords proper propers readable readables mayRead operates applied times
 
     tree-in : (x : Tree) (left : ℕ) (rest : List ℕ) → proper x t left ≡ true → readable x (t .arrays) before ≡ true
-        → expr (t .arities) (mayRead (t .arrays) before) left (treeWords x ++ rest) ≡ got x rest
+        → expr (t .operators) (mayRead (t .arrays) before) left (treeWords x ++ rest) ≡ got x rest
     tree-in (cell a c) left rest p r = rw (p, r)
     tree-in (number z) left rest p r =
         let f = signed-fits w32 2147483647 refl z p in
@@ -109,11 +109,11 @@ module _ (t : Tables) (before : List Update) where
     tree-in (constant n) left rest p r = rw p
     tree-in (operator o ts) zero rest p r = absurd (false≢true p)
     tree-in (operator o ts) (suc left) rest p r =
-        let q = both (ltb o (length (t .arities))) (propers ts t left (getD (t .arities) o 0)) p in
-        rw (q .0, trees-in ts left (getD (t .arities) o 0) rest (q .1) r)
+        let q = both (ltb o (length (t .operators))) (propers ts t left (arityAt (t .operators) o)) p in
+        rw (q .0, trees-in ts left (arityAt (t .operators) o) rest (q .1) r)
 
     trees-in : (xs : Trees) (left n : ℕ) (rest : List ℕ) → propers xs t left n ≡ true → readables xs (t .arrays) before ≡ true
-        → times nil cons (node (t .arities) (mayRead (t .arrays) before) (operates (t .arities) (mayRead (t .arrays) before) left)) n (treesWords xs ++ rest) ≡ got xs rest
+        → times nil cons (node (t .operators) (mayRead (t .arrays) before) (operates (t .operators) (mayRead (t .arrays) before) left)) n (treesWords xs ++ rest) ≡ got xs rest
     trees-in nil left zero rest p r = refl
     trees-in nil left (suc n) rest p r = absurd (false≢true p)
     trees-in (cons x xs) left zero rest p r = absurd (false≢true p)
@@ -123,7 +123,7 @@ module _ (t : Tables) (before : List Update) where
         rw (append-assoc (treeWords x) (treesWords xs) rest, tree-in x left (treesWords xs ++ rest) (q .0) (s .0), trees-in xs left n rest (q .1) (s .1))
 
 update-in : (t : Tables) (before : List Update) (u : Update) (rest : List ℕ) → allowedUpdate t u ≡ true → readable (u .source) (t .arrays) before ≡ true → nodes before + size (u .source) ≤ 8192 →
-    update (t .arities) (mayWrite (t .arrays)) (mayRead (t .arrays) before) (nodes before) (updateWords u ++ rest) ≡ got u rest
+    update (t .operators) (mayWrite (t .arrays)) (mayRead (t .arrays) before) (nodes before) (updateWords u ++ rest) ≡ got u rest
 unfolding update allowedUpdate
 update-in t before u rest a r n =
     let p = both (mayWrite (t .arrays) (u .array) (u .target)) (proper (u .source) t 12) a in

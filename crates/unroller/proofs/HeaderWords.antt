@@ -43,14 +43,14 @@ module _ (rs ds es : List ℕ) where
   rows-end l i k zero e = refl
   rows-end l i k (suc n) e = absurd (omega arith)
 
-pub head-put : (l : List ℕ) (t : Packed) (x y : ℕ) → x ≡ length (unpacked t .arities) → y ≡ length (unpacked t .arrays)
-    → sets (set (sets (set l 0 x) 1 (cut 16 0 (t .arities))) 17 y) 18 (rows 16 0 (t .roles) (t .dimensions) (t .extents)) ≡ sets l 0 (headWords t)
+pub head-put : (l : List ℕ) (t : Packed) (x y : ℕ) → x ≡ length (unpacked t .operators) → y ≡ length (unpacked t .arrays)
+    → sets (set (sets (set l 0 x) 1 (cut 16 0 (t .bytes))) 17 y) 18 (rows 16 0 (t .roles) (t .dimensions) (t .extents)) ≡ sets l 0 (headWords t)
 unfolding headWords
 head-put l t x y ex ey =
-    let n = length-cut 16 0 (t .arities) in
-    let k : 1 + length (cut 16 0 (t .arities)) ≡ 17 = omega arith in
-    rw (← ex, ← ey) (sym (sets-append (set l 0 x) 1 (cut 16 0 (t .arities)) (y ∷ rows 16 0 (t .roles) (t .dimensions) (t .extents))
-    ∙ ap (λ (i : ℕ). sets (sets (set l 0 x) 1 (cut 16 0 (t .arities))) i (y ∷ rows 16 0 (t .roles) (t .dimensions) (t .extents))) k))
+    let n = length-cut 16 0 (t .bytes) in
+    let k : 1 + length (cut 16 0 (t .bytes)) ≡ 17 = omega arith in
+    rw (← ex, ← ey) (sym (sets-append (set l 0 x) 1 (cut 16 0 (t .bytes)) (y ∷ rows 16 0 (t .roles) (t .dimensions) (t .extents))
+    ∙ ap (λ (i : ℕ). sets (sets (set l 0 x) 1 (cut 16 0 (t .bytes))) i (y ∷ rows 16 0 (t .roles) (t .dimensions) (t .extents))) k))
 
 -- ---- the layout's words
 cut-whole : (n : ℕ) (l : List ℕ) → length l ≡ n → cut n 0 l ≡ l
@@ -118,9 +118,9 @@ rows-all (suc n) (x ∷ xs) h a =
 pub head-words : (t : Tables) (T : Packed) → unpacked T ≡ t → T ≡ packed t → TablesParts t → headWords T ≡ tableWords t
 unfolding headWords tableWords packed
 head-words t T u e p =
-    let few = within-high 0 16 (length (t .arities)) (p .operators) in
+    let few = within-high 0 16 (length (t .operators)) (p .operators) in
     let most = within-high 1 16 (length (t .arrays)) (p .count) in
-    let c : cut 16 0 (T .arities) ≡ padded 16 (t .arities) = ap (λ (T : Packed). cut 16 0 (T .arities)) e ∙ cut-whole 16 (padded 16 (t .arities)) (padded-length 16 (t .arities) few) in
+    let c : cut 16 0 (T .bytes) ≡ padded 16 (t .operators) = ap (λ (T : Packed). cut 16 0 (T .bytes)) e ∙ cut-whole 16 (padded 16 (t .operators)) (padded-length 16 (t .operators) few) in
     let r : rows 16 0 (T .roles) (T .dimensions) (T .extents) ≡ padded 80 (arraysWords (t .arrays)) = ap (λ (T : Packed). rows 16 0 (T .roles) (T .dimensions) (T .extents)) e ∙ rows-all 16 (t .arrays) most (p .each) in
     rw (u, c, r)
 
@@ -130,16 +130,16 @@ pub record Putting (l₀ whole l left : List ℕ) (first at : ℕ) : Type 0 wher
   pub same-length : length l ≡ length l₀
   pub holds : sets l at left ≡ sets l₀ first whole
 
-pub record Arities (ar l₀ : List ℕ) (k : ℕ) (l : List ℕ) : Type 0 where
+pub record Operators (ar l₀ : List ℕ) (k : ℕ) (l : List ℕ) : Type 0 where
   pub left : ℕ
   pub sum : left + k ≡ 16
   pub putting : Putting l₀ (cut 16 0 ar) l (cut left k ar) 1 (1 + k)
 
-pub arities-none : (ar l : List ℕ) → Arities ar l 0 l
-arities-none ar l = record { left = 16; sum = refl; putting = record { same-length = refl; holds = refl } }
+pub operators-none : (ar l : List ℕ) → Operators ar l 0 l
+operators-none ar l = record { left = 16; sum = refl; putting = record { same-length = refl; holds = refl } }
 
-pub arities-more : (ar l₀ l : List ℕ) (k x : ℕ) → k < 16 → x ≡ getD ar k 0 → Arities ar l₀ k l → Arities ar l₀ (k + 1) (set l (1 + k) x)
-arities-more ar l₀ l k x h e a =
+pub operators-more : (ar l₀ l : List ℕ) (k x : ℕ) → k < 16 → x ≡ getD ar k 0 → Operators ar l₀ k l → Operators ar l₀ (k + 1) (set l (1 + k) x)
+operators-more ar l₀ l k x h e a =
     let s = a .sum in
     let n : 0 < a .left = omega arith in
     let j : 1 + (k + 1) ≡ 1 + k + 1 = omega arith in
@@ -152,8 +152,8 @@ arities-more ar l₀ l k x h e a =
       };
     }
 
-pub arities-all : (ar l₀ l : List ℕ) (k : ℕ) → 16 ≤ k → Arities ar l₀ k l → l ≡ sets l₀ 1 (cut 16 0 ar)
-arities-all ar l₀ l k h a = let s = a .sum in sym (cut-end l (1 + k) k ar (a .left) (omega arith)) ∙ a .putting .holds
+pub operators-all : (ar l₀ l : List ℕ) (k : ℕ) → 16 ≤ k → Operators ar l₀ k l → l ≡ sets l₀ 1 (cut 16 0 ar)
+operators-all ar l₀ l k h a = let s = a .sum in sym (cut-end l (1 + k) k ar (a .left) (omega arith)) ∙ a .putting .holds
 
 pub record Rows (rs ds es l₀ : List ℕ) (k : ℕ) (l : List ℕ) : Type 0 where
   pub left : ℕ

@@ -5,14 +5,14 @@ use mathlib.Core.List.{List, [], _∷_, _++_, append-nil, append-assoc}
 use mathlib.Core.Bool.{Bool, true, false, _&&_, _||_, not}
 use mathlib.Core.Option.{Option, some}
 use native.Mathlib.Omega.{arith}
-use lib.ListN.{length, getD, replicate, length-replicate, length-append}
+use lib.ListN.{length, replicate, length-replicate, length-append}
 use lib.Dec.{eqb, leb, ltb}
 use borrow.Author.Tests.{leb-true, ltb-true, eqb-true}
 use mir.Syntax.{w32}
 use mir.Val.{toZ, ofZ, Fits as Bits}
 use mir.Facts.{ofZ-toZ, sfits-toZ}
 use Rattle.model.specs.Test.{if_then_else_, within, every}
-use Rattle.model.specs.Tables.{Array, Tables, cells, arrayAt, local, starts, inside}
+use Rattle.model.specs.Tables.{Array, Tables, cells, arrayAt, local, starts, inside, operatorByte, arityAt}
 use Rattle.model.specs.Update.{Tree, Trees, Update, Listed, size, nodes, written}
 use Rattle.model.specs.Update.Tree.{cell, number, constant, operator}
 use Rattle.model.specs.Update.Trees.{nil, cons}
@@ -20,7 +20,7 @@ use Rattle.unroller.specs.Run.{readable, readables}
 use Rattle.unroller.specs.Words.{Out, got, none, Reader, andThen, give, refuse, word, ask, times, zeros, isGot, allZero}
 use Rattle.unroller.specs.Allowed.{localsLast, allowedArray, proper, propers, mayWrite, allowedUpdate, readAll, allowed}
 use Rattle.unroller.specs.Layout.{padded, arrayWords, arraysWords, tableWords, treeWords, treesWords, updateWords, updatesWords, words, layout}
-use Rattle.unroller.specs.Decode.{between, arities, extents, array, arrays, tables, mayRead, applied, node, operates, expr, update, updates, list, listOf, decode}
+use Rattle.unroller.specs.Decode.{tested, between, operators, extents, array, arrays, tables, mayRead, applied, node, operates, expr, update, updates, list, listOf, decode}
 use Rattle.unroller.proofs.Parts.{both, join, ArrayParts, array-whole, room, TablesParts, ListParts, list-whole, fits-signed, nodes-snoc}
 use Rattle.unroller.proofs.Encode.{arrays-length, decode-layout}
 
@@ -40,12 +40,12 @@ ask-out false w e = absurd (let z : _≡_ {A = ℕ} 0 1 = cc in omega arith)
 carry : {A : Type 0} (P : A → List ℕ → Type 0) {a b : A} {v rest : List ℕ} → _≡_ {A = Out A} (got a v) (got b rest) → P a v → P b rest
 carry P {a} {b} {v} {rest} e p = let x : a ≡ b = cc in let y : v ≡ rest = cc in subst (λ (c : _). P c rest) x (subst (λ (l : List ℕ). P a l) y p)
 
-between-out : (low high : ℕ) (w : List ℕ) {x : ℕ} {rest : List ℕ} → between low high w ≡ got x rest → (w ≡ x ∷ rest) × (within low high x ≡ true)
-between-out low high w e =
+tested-out : (test : ℕ → Bool) (w : List ℕ) {x : ℕ} {rest : List ℕ} → tested test w ≡ got x rest → (w ≡ x ∷ rest) × (test x ≡ true)
+tested-out test w e =
     let b = bind-out (word w) _ e in
-    let c = bind-out (ask (within low high (b .0)) (b .1)) _ (b .3) in
-    let d = ask-out (within low high (b .0)) (b .1) (c .2) in
-    carry (λ x rest. (w ≡ x ∷ rest) × (within low high x ≡ true)) (c .3) (word-out w (b .2) ∙ ap (λ (l : List ℕ). b .0 ∷ l) (d .1), d .0)
+    let c = bind-out (ask (test (b .0)) (b .1)) _ (b .3) in
+    let d = ask-out (test (b .0)) (b .1) (c .2) in
+    carry (λ x rest. (w ≡ x ∷ rest) × (test x ≡ true)) (c .3) (word-out w (b .2) ∙ ap (λ (l : List ℕ). b .0 ∷ l) (d .1), d .0)
 
 zeros-out : (n : ℕ) (w : List ℕ) {x : ℕ} {rest : List ℕ} → zeros n w ≡ got x rest → w ≡ replicate n 0 ++ rest
 unfolding zeros
@@ -58,16 +58,16 @@ zeros-out (suc n) w e =
     let r = zeros-out n (c .1) (c .3) in
     word-out w (b .2) ∙ rw (z, d .1) (ap (λ (l : List ℕ). 0 ∷ l) r)
 
-numbers-out : (low high n : ℕ) (w : List ℕ) {l rest : List ℕ} → times [] _∷_ (between low high) n w ≡ got l rest → (n ≡ length l) × (w ≡ l ++ rest) × (every (within low high) l ≡ true)
+numbers-out : (test : ℕ → Bool) (n : ℕ) (w : List ℕ) {l rest : List ℕ} → times [] _∷_ (tested test) n w ≡ got l rest → (n ≡ length l) × (w ≡ l ++ rest) × (every test l ≡ true)
 unfolding times
-numbers-out low high zero w {l} {rest} e = carry (λ l rest. (0 ≡ length l) × (w ≡ l ++ rest) × (every (within low high) l ≡ true)) {v = w} e (refl, refl, refl)
-numbers-out low high (suc n) w e =
-    let b = bind-out (between low high w) _ e in
-    let c = bind-out (times [] _∷_ (between low high) n (b .1)) _ (b .3) in
-    let x = between-out low high w (b .2) in
-    let y = numbers-out low high n (b .1) (c .2) in
-    carry (λ l rest. (suc n ≡ length l) × (w ≡ l ++ rest) × (every (within low high) l ≡ true)) (c .3)
-    (ap suc (y .0), x .0 ∙ ap (λ (l : List ℕ). b .0 ∷ l) (y .1), join (within low high (b .0)) (every (within low high) (c .0)) (x .1) (y .2))
+numbers-out test zero w {l} {rest} e = carry (λ l rest. (0 ≡ length l) × (w ≡ l ++ rest) × (every test l ≡ true)) {v = w} e (refl, refl, refl)
+numbers-out test (suc n) w e =
+    let b = bind-out (tested test w) _ e in
+    let c = bind-out (times [] _∷_ (tested test) n (b .1)) _ (b .3) in
+    let x = tested-out test w (b .2) in
+    let y = numbers-out test n (b .1) (c .2) in
+    carry (λ l rest. (suc n ≡ length l) × (w ≡ l ++ rest) × (every test l ≡ true)) (c .3)
+    (ap suc (y .0), x .0 ∙ ap (λ (l : List ℕ). b .0 ∷ l) (y .1), join (test (b .0)) (every test (c .0)) (x .1) (y .2))
 
 -- the same with the value and the words as variables
 bind-by : {A B : Type 0} {P : Type 0} (m : Out A) (f : A → Reader B) {b : B} {rest : List ℕ} → andThen m f ≡ got b rest → ((a : A) (v : List ℕ) → m ≡ got a v → f a v ≡ got b rest → P) → P
@@ -87,9 +87,9 @@ array-out w {x} {rest} e =
     bind-by (extents d v2) _ r2 λ es v3 e3 r3.
     bind-by (times [] _∷_ (between 1 1024) d v2) _ e3 λ es4 v4 e4 r4.
     bind-by (zeros (3 - d) v4) _ r4 λ z v5 e5 r5.
-    let p = between-out 0 3 w e1 in
-    let q = between-out 1 3 v1 e2 in
-    let r = numbers-out 1 1024 d v2 e4 in
+    let p = tested-out (within 0 3) w e1 in
+    let q = tested-out (within 1 3) v1 e2 in
+    let r = numbers-out (within 1 1024) d v2 e4 in
     let y = zeros-out (3 - d) v4 e5 in
     carry (λ x rest. (w ≡ arrayWords x ++ rest) × ArrayParts x) r3
     (carry (λ es rest. (w ≡ arrayWords (record { role = role; extents = es }) ++ rest) × ArrayParts (record { role = role; extents = es })) r5
@@ -114,28 +114,28 @@ arrays-out (suc n) after before w h e =
     carry (λ xs rest. (suc n ≡ length xs) × (w ≡ arraysWords xs ++ rest) × (every allowedArray xs ≡ true) × (localsLast after xs ≡ true) × (before + room xs ≤ 2048)) r4
     (ap suc (y .0), p .0 ∙ ap (λ (l : List ℕ). arrayWords x ++ l) (q .1 ∙ r .1 ∙ y .1) ∙ sym (append-assoc (arrayWords x) (arraysWords xs) v4), join (allowedArray x) (every allowedArray xs) (array-whole x (p .1)) (y .2), join (not after || local x) (localsLast (local x) xs) (q .0) (y .3), omega arith)
 
-tables-made : (w v1 v2 v3 v4 v5 rest ops : List ℕ) (xs : List Array) (n m : ℕ) → w ≡ n ∷ v1 → within 0 16 n ≡ true → n ≡ length ops → v1 ≡ ops ++ v2 → every (within 1 4) ops ≡ true →
+tables-made : (w v1 v2 v3 v4 v5 rest ops : List ℕ) (xs : List Array) (n m : ℕ) → w ≡ n ∷ v1 → within 0 16 n ≡ true → n ≡ length ops → v1 ≡ ops ++ v2 → every operatorByte ops ≡ true →
     v2 ≡ replicate (16 - n) 0 ++ v3 → v3 ≡ m ∷ v4 → within 1 16 m ≡ true → m ≡ length xs → v4 ≡ arraysWords xs ++ v5 → every allowedArray xs ≡ true → localsLast false xs ≡ true → room xs ≤ 2048 → v5 ≡ replicate (5 * (16 - m)) 0 ++ rest →
-    (w ≡ tableWords (record { arities = ops; arrays = xs }) ++ rest) × TablesParts (record { arities = ops; arrays = xs })
+    (w ≡ tableWords (record { operators = ops; arrays = xs }) ++ rest) × TablesParts (record { operators = ops; arrays = xs })
 unfolding tableWords
 tables-made w v1 v2 v3 v4 v5 rest ops xs n m a b c d e f g h i j k o r l =
     let y = arrays-length xs k in
     let z : 5 * (16 - m) ≡ 80 - length (arraysWords xs) = omega arith in
-    (rw (a, d, f, g, j, l, z, c, i) (simp append-assoc), record { operators = rw c at b; arity = e; count = rw i at h; each = k; order = o; fits = r })
+    (rw (a, d, f, g, j, l, z, c, i) (simp append-assoc), record { operators = rw c at b; bytes = e; count = rw i at h; each = k; order = o; fits = r })
 
 tables-out : (w : List ℕ) {t : Tables} {rest : List ℕ} → tables w ≡ got t rest → (w ≡ tableWords t ++ rest) × TablesParts t
-unfolding tables arities
+unfolding tables operators
 tables-out w e =
     bind-by (between 0 16 w) _ e λ n v1 e1 r1.
-    bind-by (times [] _∷_ (between 1 4) n v1) _ r1 λ ops v2 e2 r2.
+    bind-by (times [] _∷_ (tested operatorByte) n v1) _ r1 λ ops v2 e2 r2.
     bind-by (zeros (16 - n) v2) _ r2 λ z3 v3 e3 r3.
     bind-by (between 1 16 v3) _ r3 λ m v4 e4 r4.
     bind-by (arrays m false 0 v4) _ r4 λ xs v5 e5 r5.
     bind-by (zeros (5 * (16 - m)) v5) _ r5 λ z6 v6 e6 r6.
-    let p = between-out 0 16 w e1 in
-    let q = numbers-out 1 4 n v1 e2 in
+    let p = tested-out (within 0 16) w e1 in
+    let q = numbers-out operatorByte n v1 e2 in
     let z = zeros-out (16 - n) v2 e3 in
-    let r = between-out 1 16 v3 e4 in
+    let r = tested-out (within 1 16) v3 e4 in
     let y = arrays-out m false 0 v4 (omega arith) e5 in
     let v = zeros-out (5 * (16 - m)) v5 e6 in
     carry (λ t rest. (w ≡ tableWords t ++ rest) × TablesParts t) r6
@@ -144,7 +144,7 @@ tables-out w e =
 -- expressions
 module _ (t : Tables) (before : List Update) where
   abbrev ops : List ℕ
-  ops = t .arities
+  ops = t .operators
 
   abbrev reads : ℕ → ℕ → Bool
   reads = mayRead (t .arrays) before
@@ -228,12 +228,12 @@ module _ (t : Tables) (before : List Update) where
   unfolding expr operates applied proper propers readable readables treeWords treesWords
   applied-out left h o v x rest e =
       bind-by (ask (ltb o (length ops)) v) _ e λ z v1 e1 r1.
-      bind-by (times nil cons (expr ops reads left) (getD ops o 0) v1) _ r1 λ xs v2 e2 r2.
+      bind-by (times nil cons (expr ops reads left) (arityAt ops o) v1) _ r1 λ xs v2 e2 r2.
       let q = ask-out (ltb o (length ops)) v e1 in
-      let p = trees-out left (expr ops reads left) h (getD ops o 0) v1 e2 in
+      let p = trees-out left (expr ops reads left) h (arityAt ops o) v1 e2 in
       carry (TreeAt (suc left) (17 ∷ o ∷ 0 ∷ v)) r2 (
         ap (λ (l : List ℕ). 17 ∷ o ∷ 0 ∷ l) (q .1 ∙ p .0),
-        join (ltb o (length ops)) (propers xs t left (getD ops o 0)) (q .0) (p .1),
+        join (ltb o (length ops)) (propers xs t left (arityAt ops o)) (q .0) (p .1),
         p .2,
       )
 
@@ -243,7 +243,7 @@ module _ (t : Tables) (before : List Update) where
   tree-out (suc left) w x rest e = node-out (suc left) (operates ops reads (suc left)) (applied-out left (λ w x rest e. tree-out left w x rest e)) w e
 
 update-out : (t : Tables) (before : List Update) (w : List ℕ) {u : Update} {rest : List ℕ} →
-    update (t .arities) (mayWrite (t .arrays)) (mayRead (t .arrays) before) (nodes before) w ≡ got u rest →
+    update (t .operators) (mayWrite (t .arrays)) (mayRead (t .arrays) before) (nodes before) w ≡ got u rest →
     (w ≡ updateWords u ++ rest) × (allowedUpdate t u ≡ true) × (readable (u .source) (t .arrays) before ≡ true) × (nodes before + size (u .source) ≤ 8192)
 unfolding update allowedUpdate
 update-out t before w e =
@@ -251,7 +251,7 @@ update-out t before w e =
     bind-by (word v1) _ r1 λ a v2 e2 r2.
     bind-by (word v2) _ r2 λ c v3 e3 r3.
     bind-by (ask (eqb code 1 && mayWrite (t .arrays) a c) v3) _ r3 λ z v4 e4 r4.
-    bind-by (expr (t .arities) (mayRead (t .arrays) before) 12 v4) _ r4 λ x v5 e5 r5.
+    bind-by (expr (t .operators) (mayRead (t .arrays) before) 12 v4) _ r4 λ x v5 e5 r5.
     bind-by (ask (leb (nodes before + size x) 8192) v5) _ r5 λ z v6 e6 r6.
     let k = ask-out (eqb code 1 && mayWrite (t .arrays) a c) v3 e4 in
     let b = both (eqb code 1) (mayWrite (t .arrays) a c) (k .0) in
@@ -294,10 +294,10 @@ end-out t left before w h q e = carry (λ all rest. UpdatesAt t left before w al
 
 step-out : (t : Tables) (left : ℕ) (before : List Update) (w : List ℕ) {all : List Update} {rest : List ℕ} →
     ((b : List Update) (w : List ℕ) (all : List Update) (rest : List ℕ) → nodes b ≤ 8192 → updates t left b w ≡ got all rest → UpdatesAt t left b w all) →
-    andThen (update (t .arities) (mayWrite (t .arrays)) (mayRead (t .arrays) before) (nodes before) w) (λ u. updates t left (before ++ (u ∷ []))) ≡ got all rest →
+    andThen (update (t .operators) (mayWrite (t .arrays)) (mayRead (t .arrays) before) (nodes before) w) (λ u. updates t left (before ++ (u ∷ []))) ≡ got all rest →
     UpdatesAt t (suc left) before w all
 step-out t left before w {all} {rest} h e =
-    bind-by (update (t .arities) (mayWrite (t .arrays)) (mayRead (t .arrays) before) (nodes before) w) _ e λ u v e1 r1.
+    bind-by (update (t .operators) (mayWrite (t .arrays)) (mayRead (t .arrays) before) (nodes before) w) _ e λ u v e1 r1.
     let p = update-out t before w e1 in
     let s = nodes-snoc before u in
     let b = p .3 in
@@ -324,8 +324,8 @@ updates-out t zero before w all rest h e = by (allZero w) refl e
 updates-out t (suc left) before w all rest h e = by (allZero w) refl (λ e. step-out t left before w (λ b w all rest h e. updates-out t left b w all rest h e) e) e
   where
     by : (b : Bool) → allZero w ≡ b →
-        (andThen (update (t .arities) (mayWrite (t .arrays)) (mayRead (t .arrays) before) (nodes before) w) (λ u. updates t left (before ++ (u ∷ []))) ≡ got all rest → UpdatesAt t (suc left) before w all) →
-        (if b then got before [] else andThen (update (t .arities) (mayWrite (t .arrays)) (mayRead (t .arrays) before) (nodes before) w) (λ u. updates t left (before ++ (u ∷ [])))) ≡ got all rest →
+        (andThen (update (t .operators) (mayWrite (t .arrays)) (mayRead (t .arrays) before) (nodes before) w) (λ u. updates t left (before ++ (u ∷ []))) ≡ got all rest → UpdatesAt t (suc left) before w all) →
+        (if b then got before [] else andThen (update (t .operators) (mayWrite (t .arrays)) (mayRead (t .arrays) before) (nodes before) w) (λ u. updates t left (before ++ (u ∷ [])))) ≡ got all rest →
         UpdatesAt t (suc left) before w all
     by true q f e = end-out t (suc left) before w h q e
     by false q f e = f e

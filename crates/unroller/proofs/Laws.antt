@@ -84,9 +84,9 @@ unfolding tableWords
 table-length t a =
     let l = arrays-length (t .arrays) (a .each) in
     let m = within-high 1 16 (length (t .arrays)) (a .count) in
-    let p = padded-length 16 (t .arities) (within-high 0 16 (length (t .arities)) (a .operators)) in
+    let p = padded-length 16 (t .operators) (within-high 0 16 (length (t .operators)) (a .operators)) in
     let q = padded-length 80 (arraysWords (t .arrays)) (omega arith) in
-    let r = length-append (padded 16 (t .arities)) (length (t .arrays) ∷ padded 80 (arraysWords (t .arrays))) in
+    let r = length-append (padded 16 (t .operators)) (length (t .arrays) ∷ padded 80 (arraysWords (t .arrays))) in
     omega arith
 
 pub words-long : (l : Listed) → TablesParts (l .tables) → length (words l) ≡ 98 + 3 * (length (l .updates) + nodes (l .updates))

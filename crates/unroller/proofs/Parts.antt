@@ -12,7 +12,7 @@ use borrow.Author.Tests.{leb-true, le-leb}
 use mir.Syntax.{Width}
 use mir.Val.{SFits, hbits}
 use Rattle.model.specs.Test.{within, every, total}
-use Rattle.model.specs.Tables.{Array, Tables, cells}
+use Rattle.model.specs.Tables.{Array, Tables, cells, operatorByte}
 use Rattle.model.specs.Update.{Update, Listed, size, nodes}
 use Rattle.unroller.specs.Run.{signed}
 use Rattle.unroller.specs.Allowed.{localsLast, allowedArray, allowedTables, allowedUpdate, readAll, allowed}
@@ -54,8 +54,8 @@ abbrev pub room : List Array → ℕ
 room xs = total (λ x. cells (x .extents)) xs
 
 pub record TablesParts (t : Tables) : Type 0 where
-  pub operators : within 0 16 (length (t .arities)) ≡ true
-  pub arity : every (within 1 4) (t .arities) ≡ true
+  pub operators : within 0 16 (length (t .operators)) ≡ true
+  pub bytes : every operatorByte (t .operators) ≡ true
   pub count : within 1 16 (length (t .arrays)) ≡ true
   pub each : every allowedArray (t .arrays) ≡ true
   pub order : localsLast false (t .arrays) ≡ true
@@ -71,18 +71,18 @@ module _ (t : Tables) where
   pub tables-parts : allowedTables t ≡ true → TablesParts t
   unfolding allowedTables arrays last
   tables-parts e =
-      let p = both (within 0 16 (length (t .arities))) (every (within 1 4) (t .arities) && arrays) e in
-      let q = both (every (within 1 4) (t .arities)) arrays (p .1) in
+      let p = both (within 0 16 (length (t .operators))) (every operatorByte (t .operators) && arrays) e in
+      let q = both (every operatorByte (t .operators)) arrays (p .1) in
       let r = both (within 1 16 (length (t .arrays))) (every allowedArray (t .arrays) && last) (q .1) in
       let s = both (every allowedArray (t .arrays)) last (r .1) in
       let u = both (localsLast false (t .arrays)) (leb (room (t .arrays)) 2048) (s .1) in
-      record { operators = p .0; arity = q .0; count = r .0; each = s .0; order = u .0; fits = leb-true (room (t .arrays)) 2048 (u .1) }
+      record { operators = p .0; bytes = q .0; count = r .0; each = s .0; order = u .0; fits = leb-true (room (t .arrays)) 2048 (u .1) }
 
   pub tables-whole : TablesParts t → allowedTables t ≡ true
   unfolding allowedTables arrays last
   tables-whole a =
-      join (within 0 16 (length (t .arities))) (every (within 1 4) (t .arities) && arrays) (a .operators)
-      (join (every (within 1 4) (t .arities)) arrays (a .arity)
+      join (within 0 16 (length (t .operators))) (every operatorByte (t .operators) && arrays) (a .operators)
+      (join (every operatorByte (t .operators)) arrays (a .bytes)
       (join (within 1 16 (length (t .arrays))) (every allowedArray (t .arrays) && last) (a .count)
       (join (every allowedArray (t .arrays)) last (a .each) (join (localsLast false (t .arrays)) (leb (room (t .arrays)) 2048) (a .order) (le-leb (room (t .arrays)) 2048 (a .fits))))))
 

@@ -9,8 +9,8 @@ use lib.Seq.{sets, length-sets}
 use lib.Dec.{eqb}
 use lib.IntN.{ℤ}
 use borrow.Author.Tests.{eqb-true}
-use Rattle.model.specs.Test.{if_then_else_, within, every}
-use Rattle.model.specs.Tables.{Tables}
+use Rattle.model.specs.Test.{if_then_else_, every}
+use Rattle.model.specs.Tables.{Tables, operatorByte, arityAt}
 use Rattle.model.specs.Update.{Tree, Trees}
 use Rattle.model.specs.Update.Tree.{operator}
 use Rattle.model.specs.Update.Trees.{cons}
@@ -33,6 +33,7 @@ use Rattle.unroller.specs.declared.statement.Wrote.{Wrote}
 use Rattle.unroller.specs.declared.statement.Wrote.the-variants as wrote
 use Rattle.unroller.specs.declared.statement.Record.{Record}
 use Rattle.unroller.specs.declared.statement.Record.the-variants as rec
+use Rattle.model.proofs.Operators.{arity-few}
 use Rattle.unroller.proofs.Parts.{within-high, every-at, tables-parts}
 use Rattle.unroller.proofs.Accepted.{index-below}
 use Rattle.unroller.proofs.Records.{words-count, count-some, wrote-more}
@@ -192,18 +193,18 @@ module _ (s : List ℕ) (t : Tables) (loops : ℕ) (is : List ℤ) where
               go (wrote.No k) q = record-leaf-no k q
 
 -- behind an operator's code
-module _ (s : List ℕ) (at : ℕ) (t : Tables) (list : List ℕ) (to : ℕ) (list1 : List ℕ) (m : Field) (says : fieldSays m ≡ index (length (t .arities)) s at) where
+module _ (s : List ℕ) (at : ℕ) (t : Tables) (list : List ℕ) (to : ℕ) (list1 : List ℕ) (m : Field) (says : fieldSays m ≡ index (length (t .operators)) s at) where
   -- the operator that stands there, and its arguments
   operator-by : {P : Type 0} (place loops left : ℕ) {e : Expr} {mid : ℕ} → byte s place ≡ got 17 at → node t loops (applied t loops left) s place ≡ got e mid →
-      ((less o at1 : ℕ) (es : Exprs) → index (length (t .arities)) s at ≡ got o at1 → times none more (node t loops (applied t loops less)) (getD (t .arities) o 0) s at1 ≡ got es mid → apply o es ≡ e → P) → P
+      ((less o at1 : ℕ) (es : Exprs) → index (length (t .operators)) s at ≡ got o at1 → times none more (node t loops (applied t loops less)) (arityAt (t .operators) o) s at1 ≡ got es mid → apply o es ≡ e → P) → P
   unfolding node applied applyOf
   operator-by {P} place loops left {e} {mid} b g f = go left (rw b at g)
     where
       go : (left : ℕ) → applied t loops left place s at ≡ got e mid → P
       go zero h = not-got h
       go (suc less) h =
-          read-by (index (length (t .arities)) s at) _ h λ o at1 e1 r1.
-          read-by (times none more (node t loops (applied t loops less)) (getD (t .arities) o 0) s at1) _ r1 λ es at2 e2 r2.
+          read-by (index (length (t .operators)) s at) _ h λ o at1 e1 r1.
+          read-by (times none more (node t loops (applied t loops less)) (arityAt (t .operators) o) s at1) _ r1 λ es at2 e2 r2.
           let v : at2 ≡ mid = cc in
           let u : apply o es ≡ e = cc in
           f less o at1 es e1 (e2 ∙ ap (got es) v) u
@@ -214,14 +215,14 @@ module _ (s : List ℕ) (at : ℕ) (t : Tables) (list : List ℕ) (to : ℕ) (li
       let h = field-no says x in
       operator-by place loops left b g λ less o at1 es e1 e2 u. absurd (let z : _≡_ {A = ℕ} 0 1 = cc in omega arith)
 
-  module _ (o at1 n : ℕ) (x : m ≡ field.Is o at1) (d : n ≡ getD (t .arities) o 0) where
-    found : index (length (t .arities)) s at ≡ got o at1
+  module _ (o at1 n : ℕ) (x : m ≡ field.Is o at1) (d : n ≡ arityAt (t .operators) o) where
+    found : index (length (t .operators)) s at ≡ got o at1
     found = field-got says x
 
     pub operator-many : (j : ℕ) → 4 < n → WritesOperator s at t list to (rec.No j) list1
     unfolding WritesOperator WritesRecord
     operator-many j h place loops is b k list′ = rest-by s t loops is place k list to (wrote.No j) list′ λ e rest left mid next p g ch len l i a w.
-        absurd (let v = within-high 1 4 (getD (t .arities) o 0) (every-at (within 1 4) (t .arities) 0 o (tables-parts t a .arity) (index-below (length (t .arities)) s at found)) in omega arith)
+        absurd (let v = arity-few 2 (getD (t .operators) o 0) (every-at operatorByte (t .operators) 0 o (tables-parts t a .bytes) (index-below (length (t .operators)) s at found)) in omega arith)
 
     pub operator-is : (word : ℕ) → (o < 4294967296 → word ≡ o) → list1 ≡ sets list to (17 ∷ word ∷ 0 ∷ []) → WritesOperator s at t list to (rec.Of at1 n) list1
     unfolding WritesOperator WritesRecord WritesRest count
@@ -231,12 +232,12 @@ module _ (s : List ℕ) (at : ℕ) (t : Tables) (list : List ℕ) (to : ℕ) (li
         let same : o1 ≡ o = cc in
         let there : at2 ≡ at1 = cc in
         let ps = tables-parts t a in
-        let few = within-high 0 16 (length (t .arities)) (ps .operators) in
-        let small = index-below (length (t .arities)) s at fo in
+        let few = within-high 0 16 (length (t .operators)) (ps .operators) in
+        let small = index-below (length (t .operators)) s at fo in
         let f1 : list1 ≡ sets list to (17 ∷ o ∷ 0 ∷ []) = f ∙ ap (λ (b : ℕ). sets list to (17 ∷ b ∷ 0 ∷ [])) (y (omega arith)) in
         let len1 = ap length f1 ∙ length-sets list to (17 ∷ o ∷ 0 ∷ []) in
         let g2 : times none more (node t loops (applied t loops less)) n s at1 ≡ got es mid =
-        ap₂ (λ (k q : ℕ). times none more (node t loops (applied t loops less)) k s q) (d ∙ ap (λ (o : ℕ). getD (t .arities) o 0) (sym same)) (sym there) ∙ e2 in
+        ap₂ (λ (k q : ℕ). times none more (node t loops (applied t loops less)) k s q) (d ∙ ap (λ (o : ℕ). arityAt (t .operators) o) (sym same)) (sym there) ∙ e2 in
         let v = chain-args s t loops is less n at1 es mid g2 in
         let ct : count (apply o1 es) ≡ count e = ap count u in
         let ta = total-append (listed es) rest in

@@ -4,12 +4,12 @@ use native.Mathlib.Omega.{arith}
 use mathlib.Core.Path.{_≡_, refl, ap, ap₂, _∙_}
 use mathlib.Core.List.{List, [], _∷_, _++_}
 use mathlib.Core.Bool.{Bool, true, false, _&&_}
-use lib.ListN.{length, getD}
+use lib.ListN.{length}
 use lib.Dec.{leb}
 use lib.IntN.{ℤ, pos}
 use lib.Signed.{leZ}
 use Rattle.model.specs.Test.{every}
-use Rattle.model.specs.Tables.{Tables, arrayAt}
+use Rattle.model.specs.Tables.{Tables, arrayAt, arityAt}
 use Rattle.model.specs.Update.{Tree, Trees}
 use Rattle.model.specs.Update.Tree.{cell, number, operator}
 use Rattle.model.specs.Update.Trees.{cons}
@@ -62,7 +62,7 @@ module _ (p : ℕ) (is : List ℤ) (fit : every fits16 is ≡ true) where
       tree-same : (e : Expr) (left : ℕ) → Sound Any e t left → Asking.tree e t p is ≡ tree e t p is
       tree-same (read a fs) left s = ap (λ (m : Ran ℕ). m >>= λ c. ok (cell a c)) (cell-same a fs (s .1))
       tree-same (apply o es) zero s = absurd s
-      tree-same (apply o es) (suc left) s = ap (λ (m : Ran Trees). m >>= λ ts. ok (operator o ts)) (trees-same es left (getD (t .arities) o 0) (s .1))
+      tree-same (apply o es) (suc left) s = ap (λ (m : Ran Trees). m >>= λ ts. ok (operator o ts)) (trees-same es left (arityAt (t .operators) o) (s .1))
       tree-same (literal f) left s = ap (λ (m : Ran ℤ). m >>= λ v. ok (number v)) (worked-is f s)
       tree-same (named n) left s = refl
 

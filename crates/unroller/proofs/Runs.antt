@@ -105,8 +105,8 @@ arrays-last (suc n) after before s at e =
 tables-last : (s : List ℕ) (at : ℕ) {t : Tables} {next : ℕ} → tables s at ≡ got t next → localsLast false (t .arrays) ≡ true
 unfolding tables
 tables-last s at e =
-    read-by (head s at) _ e λ _ at1 _ r1.
-    read-by (operators s at1) _ r1 λ ops at2 _ r2.
+    read-by (head s at) _ e λ version at1 _ r1.
+    read-by (operators version s at1) _ r1 λ ops at2 _ r2.
     read-by (byte s at2) _ r2 λ n at3 _ r3.
     asked-by 7 at2 (within 1 16 n) s at3 _ r3 λ _ r4.
     read-by (arrays n false 0 s at3) _ r4 λ xs at4 e4 r5.

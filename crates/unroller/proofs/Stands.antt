@@ -11,8 +11,8 @@ use lib.Dec.{eqb, leb, ltb}
 use borrow.Author.Tests.{ltb-true, ltb-false, leb-true, leb-false}
 use mir.Syntax.{w32}
 use mir.Val.{ofZ}
-use Rattle.model.specs.Test.{within, every}
-use Rattle.model.specs.Tables.{Array, Tables, cells, arrayAt, inside}
+use Rattle.model.specs.Test.{every}
+use Rattle.model.specs.Tables.{Array, Tables, cells, arrayAt, inside, operatorByte, arityAt}
 use Rattle.model.specs.Update.{Tree, Trees, Update, Listed}
 use Rattle.model.specs.Update.Tree.{cell, number, constant, operator}
 use Rattle.model.specs.Update.Trees.{nil, cons}
@@ -21,6 +21,7 @@ use Rattle.unroller.specs.Layout.{padded, arrayWords, arraysWords, table
 use Rattle.unroller.specs.Decode.{decode}
 use Rattle.unroller.specs.State.{nowhere}
 use Rattle.unroller.specs.Stands.{basesFrom, basesOf, Proper, Three, ArrayAt, HeaderAt, many, TreeAt, TreesAt, UpdatesAt, Stands}
+use Rattle.model.proofs.Operators.{arity-few}
 use Rattle.unroller.proofs.Parts.{both, within-high, every-at, ArrayParts, array-parts, room, TablesParts, list-parts, signed-fits}
 use Rattle.unroller.proofs.Encode.{padded-length, arrays-length}
 use Rattle.unroller.proofs.Inverse.{layout-decode}
@@ -135,9 +136,9 @@ propers-many t (cons x xs) left zero e = absurd (false≢true e)
 propers-many t (cons x xs) left (suc n) e = ap suc (propers-many t xs left n (both (proper x t left) (propers xs t left n) e .1))
 
 -- trees and updates
-module _ (w : List ℕ) (t : Tables) (arity : every (within 1 4) (t .arities) ≡ true) where
+module _ (w : List ℕ) (t : Tables) (bytes : every operatorByte (t .operators) ≡ true) where
   abbrev ops : List ℕ
-  ops = t .arities
+  ops = t .operators
 
   abbrev bases : List ℕ
   bases = basesOf (t .arrays)
@@ -151,10 +152,10 @@ module _ (w : List ℕ) (t : Tables) (arity : every (within 1 4) (t .arities) �
     tree-stands (constant n) left at r p e = (at + 3, (three-at w at 19 n 0 r e, refl), drop-more w at 3 (19 ∷ n ∷ 0 ∷ r) e)
     tree-stands (operator o ts) zero at r p e = absurd (false≢true p)
     tree-stands (operator o ts) (suc left) at r p e =
-        let q = both (ltb o (length ops)) (propers ts t left (getD ops o 0)) p in
-        let m = propers-many t ts left (getD ops o 0) (q .1) in
-        let k = within-high 1 4 (getD ops o 0) (every-at (within 1 4) ops 0 o arity (ltb-true o (length ops) (q .0))) in
-        let s = trees-stand ts left (getD ops o 0) (at + 3) r (q .1) (drop-more w at 3 (17 ∷ o ∷ 0 ∷ (treesWords ts ++ r)) e) in
+        let q = both (ltb o (length ops)) (propers ts t left (arityAt ops o)) p in
+        let m = propers-many t ts left (arityAt ops o) (q .1) in
+        let k = arity-few 2 (getD ops o 0) (every-at operatorByte ops 0 o bytes (ltb-true o (length ops) (q .0))) in
+        let s = trees-stand ts left (arityAt ops o) (at + 3) r (q .1) (drop-more w at 3 (17 ∷ o ∷ 0 ∷ (treesWords ts ++ r)) e) in
         (s .0, (three-at w at 17 o 0 (treesWords ts ++ r) e, ltb-true o (length ops) (q .0), sym m, omega arith, (left, omega arith, s .1)), s .2)
 
     trees-stand : (xs : Trees) (left n at : ℕ) (r : List ℕ) → propers xs t left n ≡ true → drop at w ≡ treesWords xs ++ r → (to : ℕ) × TreesAt ops bases w xs left at to × (drop to w ≡ r)
@@ -211,14 +212,14 @@ module _ (w : List ℕ) where
   header-stands : (t : Tables) (r : List ℕ) → TablesParts t → w ≡ tableWords t ++ r → Behind t r
   unfolding tableWords
   header-stands t r p e =
-      let ops = padded 16 (t .arities) in
+      let ops = padded 16 (t .operators) in
       let xs = padded 80 (arraysWords (t .arrays)) in
-      let few = within-high 0 16 (length (t .arities)) (p .operators) in
+      let few = within-high 0 16 (length (t .operators)) (p .operators) in
       let most = within-high 1 16 (length (t .arrays)) (p .count) in
       let l = arrays-length (t .arrays) (p .each) in
-      let m = padded-length 16 (t .arities) few in
+      let m = padded-length 16 (t .operators) few in
       let n = padded-length 80 (arraysWords (t .arrays)) (omega arith) in
-      let e0 : drop 0 w ≡ length (t .arities) ∷ (ops ++ (length (t .arrays) ∷ (xs ++ r))) = e ∙ ap (λ (l : List ℕ). length (t .arities) ∷ l) (append-assoc ops (length (t .arrays) ∷ xs) r) in
+      let e0 : drop 0 w ≡ length (t .operators) ∷ (ops ++ (length (t .arrays) ∷ (xs ++ r))) = e ∙ ap (λ (l : List ℕ). length (t .operators) ∷ l) (append-assoc ops (length (t .arrays) ∷ xs) r) in
       let e1 : drop 1 w ≡ ops ++ (length (t .arrays) ∷ (xs ++ r)) = drop-more w 0 1 _ e0 in
       let e17 : drop 17 w ≡ length (t .arrays) ∷ (xs ++ r) = drop-more w 1 16 _ e1 ∙ drop-at ops (length (t .arrays) ∷ (xs ++ r)) 16 m in
       let e18 : drop 18 w ≡ xs ++ r = drop-more w 17 1 _ e17 in
@@ -229,7 +230,7 @@ module _ (w : List ℕ) where
         record {
           room = omega arith;
           operators = word-here w 0 _ e0;
-          arity = λ o h. word-at w 1 o _ e1 ∙ padded-at 16 (t .arities) (length (t .arrays) ∷ (xs ++ r)) o few h;
+          word = λ o h. word-at w 1 o _ e1 ∙ padded-at 16 (t .operators) (length (t .arrays) ∷ (xs ++ r)) o few h;
           count = word-here w 17 _ e17;
           array = λ a h. arrays-stand (t .arrays) 18 _ (p .each) a18 a h;
         },
@@ -246,4 +247,4 @@ stands w l e =
     let r : List ℕ = updatesWords (l .updates) ++ replicate k 0 in
     let whole : w ≡ tableWords (l .tables) ++ r = d .0 ∙ append-assoc (tableWords (l .tables)) (updatesWords (l .updates)) (replicate k 0) in
     let h = header-stands w (l .tables) r (a .tables-allowed) whole in
-    record { header = h .0; updates = updates-stand w (l .tables) (a .tables-allowed .arity) (l .updates) 98 k (a .each) (h .1) }
+    record { header = h .0; updates = updates-stand w (l .tables) (a .tables-allowed .bytes) (l .updates) 98 k (a .each) (h .1) }

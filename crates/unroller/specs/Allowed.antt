@@ -3,11 +3,11 @@
 use Prim.Native.Nat.{ℕ, zero, suc}
 use mathlib.Core.List.{List, [], _∷_, _++_}
 use mathlib.Core.Bool.{Bool, true, false, _&&_, _||_, not}
-use lib.ListN.{length, getD}
+use lib.ListN.{length}
 use lib.Dec.{ltb, leb, eqb}
 use lib.IntN.{ℤ}
 use Rattle.model.specs.Test.{within, every, total}
-use Rattle.model.specs.Tables.{Array, Tables, cells, arrayAt, local, inside}
+use Rattle.model.specs.Tables.{Array, Tables, cells, arrayAt, local, inside, operatorByte, arityAt}
 use Rattle.model.specs.Update.{Tree, Trees, Update, Listed, nodes}
 use Rattle.model.specs.Update.Tree.{cell, number, constant, operator}
 use Rattle.model.specs.Update.Trees.{nil, cons}
@@ -24,8 +24,8 @@ allowedArray x = within 0 3 (x .role) && (within 1 3 (length (x .extents)) && ev
 -- tables that the file allows: 6, 7, 8
 unfoldable pub allowedTables : Tables → Bool
 allowedTables t =
-    within 0 16 (length (t .arities))
-    && (every (within 1 4) (t .arities)
+    within 0 16 (length (t .operators))
+    && (every operatorByte (t .operators)
     && (within 1 16 (length (t .arrays))
     && (every allowedArray (t .arrays) && (localsLast false (t .arrays) && leb (total (λ x. cells (x .extents)) (t .arrays)) 2048))))
 
@@ -40,7 +40,7 @@ unfoldable mutual
   proper (number z) t left = fits32 z
   proper (constant n) t left = ltb n 4294967296
   proper (operator o ts) t zero = false
-  proper (operator o ts) t (suc left) = ltb o (length (t .arities)) && propers ts t left (getD (t .arities) o 0)
+  proper (operator o ts) t (suc left) = ltb o (length (t .operators)) && propers ts t left (arityAt (t .operators) o)
 
   -- as many as the arity
   pub propers : Trees → Tables → ℕ → ℕ → Bool

@@ -10,7 +10,7 @@ use Rattle.model.specs.Tables.{cells, Array, Tables}
 use Rattle.model.specs.Update.{Tree, Trees, size, sizes, Update}
 use Rattle.model.specs.Reply.{left, both}
 use Rattle.unroller.specs.Words.{Out, got, none, Reader, isGot, zeros}
-use Rattle.unroller.specs.Decode.{arities, array, arrays, tables, node, update, updates}
+use Rattle.unroller.specs.Decode.{operators, array, arrays, tables, node, update, updates}
 use Rattle.unroller.specs.Unroll as Unroll
 use Rattle.unroller.specs.State.{State, Small, readableIn, writableIn, spot}
 use Rattle.unroller.specs.declared.lists.Checked.{Checked}
@@ -37,9 +37,9 @@ abbrev pub Zeros : List ℕ → ℕ → ℕ → Bool → Type 0
 Zeros s from n true = zeros n (drop from s) ≡ got 0 (drop (from + n) s)
 Zeros s from n false = zeros n (drop from s) ≡ none
 
-abbrev pub Arities : List ℕ → ℕ → ℕ → Bool → Type 0
-Arities s from n true = arities n (drop from s) ≡ got (take n (drop from s)) (drop (from + n) s)
-Arities s from n false = arities n (drop from s) ≡ none
+abbrev pub Operators : List ℕ → ℕ → ℕ → Bool → Type 0
+Operators s from n true = operators n (drop from s) ≡ got (take n (drop from s)) (drop (from + n) s)
+Operators s from n false = operators n (drop from s) ≡ none
 
 -- the factor that a word adds to an array's size; 0 where it is wrong
 unfoldable pub factorOf : Bool → ℕ → ℕ
@@ -56,7 +56,7 @@ Arrays s m st false = arrays m false 0 (drop 18 s) ≡ none
 
 abbrev pub Header : List ℕ → List ℕ → Bool → Type 0
 Header s st true =
-    (t : Tables) × (tables s ≡ got t (drop 98 s)) × (getD s 0 0 ≤ 16) × (t .arities ≡ take (getD s 0 0) (drop 1 s)) × Small (t .arrays) × State (t .arrays) [] st
+    (t : Tables) × (tables s ≡ got t (drop 98 s)) × (getD s 0 0 ≤ 16) × (t .operators ≡ take (getD s 0 0) (drop 1 s)) × Small (t .arrays) × State (t .arrays) [] st
 Header s st false = tables s ≡ none
 
 -- a record that is no operator's
@@ -97,4 +97,4 @@ Updates s at ops st count st′ Stop = update ops (writableIn st) (readableIn st
 -- the updates from word 98 on, for any tables that the operators and the state belong to
 abbrev pub Follow : List ℕ → List ℕ → List ℕ → Bool → Type 0
 Follow s ops st r =
-    (t : Tables) → t .arities ≡ ops → Small (t .arrays) → State (t .arrays) [] st → r ≡ isGot (updates t 2048 [] (drop 98 s))
+    (t : Tables) → t .operators ≡ ops → Small (t .arrays) → State (t .arrays) [] st → r ≡ isGot (updates t 2048 [] (drop 98 s))

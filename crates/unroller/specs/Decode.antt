@@ -4,27 +4,31 @@ use mathlib.Core.List.{List, [], _∷_, _++_}
 use mathlib.Core.Bool.{Bool, true, false, _&&_, _||_, not}
 use mathlib.Core.Option.{Option, some}
 use mathlib.Core.Option.Option.{none as nothing}
-use lib.ListN.{length, getD}
+use lib.ListN.{length}
 use lib.Dec.{ltb, leb, eqb}
 use mir.Syntax.{w32}
 use mir.Val.{toZ}
 use Rattle.model.specs.Test.{if_then_else_, within}
-use Rattle.model.specs.Tables.{Array, Tables, cells, arrayAt, local, starts, inside}
+use Rattle.model.specs.Tables.{Array, Tables, cells, arrayAt, local, starts, inside, operatorByte, arityAt}
 use Rattle.model.specs.Update.{Tree, Trees, Update, Listed, size, nodes, written}
 use Rattle.model.specs.Update.Tree.{cell, number, constant, operator}
 use Rattle.model.specs.Update.Trees.{nil, cons}
 use Rattle.unroller.specs.Words.{Out, got, none, Reader, andThen, _>>=_, give, refuse, ask, word, times, zeros, isGot, allZero}
 use Rattle.unroller.specs.Allowed.{mayWrite}
 
--- a word from low to high
-abbrev pub between : ℕ → ℕ → Reader ℕ
-between low high = do
+-- a word that passes a test
+abbrev pub tested : (ℕ → Bool) → Reader ℕ
+tested test = do
   x ← word
-  _ ← ask (within low high x)
+  _ ← ask (test x)
   give x
 
-unfoldable pub arities : ℕ → Reader (List ℕ)
-arities n = times [] _∷_ (between 1 4) n
+-- a word from low to high
+abbrev pub between : ℕ → ℕ → Reader ℕ
+between low high = tested (within low high)
+
+unfoldable pub operators : ℕ → Reader (List ℕ)
+operators n = times [] _∷_ (tested operatorByte) n
 
 unfoldable pub extents : ℕ → Reader (List ℕ)
 extents n = do
@@ -52,23 +56,23 @@ arrays (suc n) after before = do
 unfoldable pub tables : Reader Tables
 tables = do
   n ← between 0 16
-  ops ← arities n
+  ops ← operators n
   _ ← zeros (16 - n)
   m ← between 1 16
   xs ← arrays m false 0
   _ ← zeros (5 * (16 - m))
-  give (record { arities = ops; arrays = xs })
+  give (record { operators = ops; arrays = xs })
 
 -- a declared cell with a starting content, or written before
 unfoldable pub mayRead : List Array → List Update → ℕ → ℕ → Bool
 mayRead xs before a c = inside xs a c && (starts (arrayAt xs a) || written before a c)
 
--- expressions over operators of these arities, and cells that may be read
+-- expressions over these operators, and cells that may be read
 module _ (ops : List ℕ) (reads : ℕ → ℕ → Bool) where
   unfoldable pub applied : Reader Tree → ℕ → Reader Tree
   applied one o = do
     _ ← ask (ltb o (length ops))
-    ts ← times nil cons one (getD ops o 0)
+    ts ← times nil cons one (arityAt ops o)
     give (operator o ts)
 
   -- a record of three words; `operates` reads what follows an operator's
@@ -115,7 +119,7 @@ unfoldable pub updates : Tables → ℕ → List Update → Reader (List Update)
 updates t zero before s = if allZero s then got before [] else none
 updates t (suc left) before s =
     if allZero s then got before [] else
-    andThen (update (t .arities) (mayWrite (t .arrays)) (mayRead (t .arrays) before) (nodes before) s) (λ u. updates t left (before ++ (u ∷ [])))
+    andThen (update (t .operators) (mayWrite (t .arrays)) (mayRead (t .arrays) before) (nodes before) s) (λ u. updates t left (before ++ (u ∷ [])))
 
 unfoldable pub list : Reader Listed
 list = do

@@ -21,7 +21,7 @@ arraysWords [] = []
 arraysWords (x ∷ xs) = arrayWords x ++ arraysWords xs
 
 unfoldable pub tableWords : Tables → List ℕ
-tableWords t = length (t .arities) ∷ padded 16 (t .arities) ++ length (t .arrays) ∷ padded 80 (arraysWords (t .arrays))
+tableWords t = length (t .operators) ∷ padded 16 (t .operators) ++ length (t .arrays) ∷ padded 80 (arraysWords (t .arrays))
 
 unfoldable mutual
   pub treeWords : Tree → List ℕ

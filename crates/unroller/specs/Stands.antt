@@ -5,7 +5,7 @@ use mathlib.Core.List.{List, [], _∷_}
 use lib.ListN.{length, getD}
 use mir.Syntax.{w32}
 use mir.Val.{SFits, ofZ}
-use Rattle.model.specs.Tables.{Array, Tables, cells, arrayAt}
+use Rattle.model.specs.Tables.{Array, Tables, cells, arrayAt, arityAt}
 use Rattle.model.specs.Update.{Tree, Trees, Update, Listed}
 use Rattle.model.specs.Update.Tree.{cell, number, constant, operator}
 use Rattle.model.specs.Update.Trees.{nil, cons}
@@ -37,11 +37,11 @@ pub record ArrayAt (list : List ℕ) (at : ℕ) (x : Array) : Type 0 where
   pub dimensions : getD list (at + 1) 0 ≡ length (x .extents)
   pub extent : (d : ℕ) → d < 3 → getD list (at + 2 + d) 0 ≡ getD (x .extents) d 0
 
--- the 98 words of the tables; an unused arity is 0
+-- the 98 words of the tables; an unused operator is 0
 pub record HeaderAt (list : List ℕ) (t : Tables) : Type 0 where
   pub room : 98 ≤ length list
-  pub operators : getD list 0 0 ≡ length (t .arities)
-  pub arity : (o : ℕ) → o < 16 → getD list (1 + o) 0 ≡ getD (t .arities) o 0
+  pub operators : getD list 0 0 ≡ length (t .operators)
+  pub word : (o : ℕ) → o < 16 → getD list (1 + o) 0 ≡ getD (t .operators) o 0
   pub count : getD list 17 0 ≡ length (t .arrays)
   pub array : (a : ℕ) → a < length (t .arrays) → ArrayAt list (18 + 5 * a) (arrayAt (t .arrays) a)
 
@@ -49,7 +49,7 @@ unfoldable pub many : Trees → ℕ
 many nil = 0
 many (cons t ts) = suc (many ts)
 
-module _ (arities bases list : List ℕ) where
+module _ (operators bases list : List ℕ) where
   -- a tree stands at `at` and ends before `to`; operators nest at most `left` deep
   unfoldable mutual
     pub TreeAt : Tree → ℕ → ℕ → ℕ → Type 0
@@ -57,7 +57,7 @@ module _ (arities bases list : List ℕ) where
     TreeAt (number z) left at to = Three list at 18 (ofZ w32 z) 0 × SFits w32 z × (to ≡ at + 3)
     TreeAt (constant n) left at to = Three list at 19 n 0 × (to ≡ at + 3)
     TreeAt (operator o us) left at to =
-        Three list at 17 o 0 × (o < length arities) × (getD arities o 0 ≡ many us) × (many us ≤ 4) × ((l : ℕ) × (left ≡ l + 1) × TreesAt us l (at + 3) to)
+        Three list at 17 o 0 × (o < length operators) × (arityAt operators o ≡ many us) × (many us ≤ 4) × ((l : ℕ) × (left ≡ l + 1) × TreesAt us l (at + 3) to)
 
     pub TreesAt : Trees → ℕ → ℕ → ℕ → Type 0
     TreesAt nil left at to = to ≡ at
@@ -72,4 +72,4 @@ module _ (arities bases list : List ℕ) where
 -- the whole list
 pub record Stands (list : List ℕ) (l : Listed) : Type 0 where
   pub header : HeaderAt list (l .tables)
-  pub updates : UpdatesAt (l .tables .arities) (basesOf (l .tables .arrays)) list (l .updates) 98
+  pub updates : UpdatesAt (l .tables .operators) (basesOf (l .tables .arrays)) list (l .updates) 98

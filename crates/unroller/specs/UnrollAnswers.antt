@@ -29,7 +29,7 @@ rows (suc n) k roles dimensions extents =
 
 -- the 98 words of the header, as the code's tables hold them
 unfoldable pub headWords : Packed → List ℕ
-headWords t = length (unpacked t .arities) ∷ cut 16 0 (t .arities) ++ length (unpacked t .arrays) ∷ rows 16 0 (t .roles) (t .dimensions) (t .extents)
+headWords t = length (unpacked t .operators) ∷ cut 16 0 (t .bytes) ++ length (unpacked t .arrays) ∷ rows 16 0 (t .roles) (t .dimensions) (t .extents)
 
 -- An accepted program, unrolled into a cleared list.
 unfoldable pub Unrolls : List ℕ → List ℕ → Unrolled → List ℕ → Type 0

@@ -28,13 +28,13 @@ fn word_of_count(x: usize) -> u32
     if x < 16 { x as u32 } else { 16 }
 }
 
-fn put_arities(arities: [u8; 16], list: &mut [u32])
+fn put_operators(bytes: [u8; 16], list: &mut [u32])
     requires { ⌜ headerWords ≤ length (now list) ⌝ }
-    ensures { λ _. ⌜ now (list .exit) ≡ sets (now (list .entry)) 1 (cut 16 0 arities) ⌝ }
+    ensures { λ _. ⌜ now (list .exit) ≡ sets (now (list .entry)) 1 (cut 16 0 bytes) ⌝ }
 {
     let mut k: usize = 0;
     while k < 16 {
-        list[1 + k] = word_of_byte(arities[k]);
+        list[1 + k] = word_of_byte(bytes[k]);
         k += 1;
     }
 }
@@ -71,12 +71,12 @@ pub(crate) fn header(tables: Tables, list: &mut [u32])
     requires { ⌜ headerWords ≤ length (now list) ⌝ }
     ensures { λ _. ⌜ now (list .exit) ≡ sets (now (list .entry)) 0 (headWords «tables») ⌝ }
 {
-    let arities = tables.arities;
+    let bytes = tables.bytes;
     let roles = tables.roles;
     let dimensions = tables.dimensions;
     let extents = tables.extents;
     list[0] = word_of_count(tables.operators);
-    put_arities(arities, list);
+    put_operators(bytes, list);
     list[17] = word_of_count(tables.arrays);
     put_rows(roles, dimensions, extents, list);
 }

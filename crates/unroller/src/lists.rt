@@ -10,9 +10,11 @@ ghost use Rattle.unroller.specs.Words.{allZero, times};
 ghost use Rattle.unroller.specs.Decode.{expr, operates, accepted};
 ghost use Rattle.unroller.specs.Unroll.{checkReply};
 ghost use Rattle.unroller.specs.State.{readableIn, writableIn, spot, Filled, stateOf};
-ghost use Rattle.unroller.specs.CheckAnswers.{checkedSays, Either, Zeros, Arities, factorOf, Declares, Arrays, Header, Leaf, answerOf, Reads, Follows, ReadsAll, Updates, Follow};
+ghost use Rattle.unroller.specs.CheckAnswers.{checkedSays, Either, Zeros, Operators, factorOf, Declares, Arrays, Header, Leaf, answerOf, Reads, Follows, ReadsAll, Updates, Follow};
 ghost use Rattle.model.specs.Memory.{headerWords};
 use model::numbers::wide;
+use model::operator::arity;
+use model::operator::is_operator;
 use model::sizes::HEADER_WORDS;
 use model::sizes::LIST_WORDS;
 use model::sizes::MOST_CELLS;
@@ -99,18 +101,14 @@ fn ended(list: &[u32], at: usize) -> bool
     long_zeros_at(list, at, list.len() - at)
 }
 
-// Are the n words behind the first arities?
-fn arities_at(list: &[u32], n: usize) -> bool
+// Are the n words behind the first operators?
+fn operators_at(list: &[u32], n: usize) -> bool
     requires { ⌜ 1 + n ≤ length (now list) ⌝ }
-    ensures { λ r. ⌜ Arities (now (list .entry)) 1 n r ⌝ }
+    ensures { λ r. ⌜ Operators (now (list .entry)) 1 n r ⌝ }
 {
     let mut k: usize = 0;
     while k < n {
-        let x = list[1 + k];
-        if x < 1 {
-            return false;
-        }
-        if 4 < x {
+        if !is_operator(2, wide(list[1 + k])) {
             return false;
         }
         k += 1;
@@ -244,7 +242,7 @@ fn header(list: &[u32], state: &mut [u8]) -> bool
     if 16 < n {
         return false;
     }
-    if !arities_at(list, n) {
+    if !operators_at(list, n) {
         return false;
     }
     if !zeros_at(list, 1 + n, 16 - n) {
@@ -345,13 +343,14 @@ fn operator(list: &[u32], at: usize, ops: &[u32], state: &[u8], left: usize, o: 
     }
     let k = wide(o);
     if k < ops.len() {
-        return args(list, at, ops, state, left - 1, ops[k]);
+        let byte = wide(ops[k]);
+        return args(list, at, ops, state, left - 1, arity(byte));
     }
     0
 }
 
 // The n arguments of an operator. Where n is 0 the answer is `at`, so that is not 0.
-fn args(list: &[u32], at: usize, ops: &[u32], state: &[u8], left: usize, n: u32) -> usize
+fn args(list: &[u32], at: usize, ops: &[u32], state: &[u8], left: usize, n: usize) -> usize
     requires { ⌜ (length (now state) ≡ 32768) × (0 < at) ⌝ }
     ensures { λ r. ⌜ ReadsAll (now (list .entry)) at (times nil cons (expr (now (ops .entry)) (readableIn (now (state .entry))) left) n (drop at (now (list .entry)))) (answerOf r) ⌝ }
 {

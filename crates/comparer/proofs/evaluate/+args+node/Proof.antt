@@ -15,6 +15,7 @@ use Rattle.comparer.proofs.evaluate.+args+node.Lts-args as args-lts
 use Rattle.comparer.proofs.evaluate.node.Reads as node
 use Rattle.comparer.proofs.evaluate.node.Kinds as node-kinds
 use Rattle.comparer.proofs.evaluate.+args+node.Lts-node as node-lts
+use Rattle.comparer.proofs.evaluate.byte_of.Reads as byte-of-reads
 use Rattle.comparer.proofs.evaluate.arity.Reads as arity-reads
 use Rattle.comparer.proofs.evaluate.leaf.Reads as leaf-reads
 use Rattle.comparer.proofs.evaluate.no_room.Reads as no-room-reads
@@ -54,7 +55,7 @@ abbrev args-claims : ℕ → args-lts.Claims
 args-claims t = (node-below t, node.Post, pick-reads.Asked, pick-reads.Learnt)
 
 abbrev node-claims : ℕ → node-lts.Claims
-node-claims t = (no-room-reads.Asked, no-room-reads.Learnt, leaf-reads.Asked, leaf-reads.Learnt, arity-reads.Asked, arity-reads.Learnt, args-below t, args.Post, operate-reads.Asked, operate-reads.Learnt)
+node-claims t = (no-room-reads.Asked, no-room-reads.Learnt, leaf-reads.Asked, leaf-reads.Learnt, byte-of-reads.Asked, byte-of-reads.Learnt, arity-reads.Asked, arity-reads.Learnt, args-below t, args.Post, operate-reads.Asked, operate-reads.Learnt)
 
 module _ (t : ℕ) where
   args-array-read-a0 : args-lts.Need-array-read-a0 (args-claims t) (args-at t) args.Post args-Inv-loop args-μ-loop
@@ -156,6 +157,9 @@ module _ (t : ℕ) where
   node-shared-slice-read-o : node-lts.Need-shared-slice-read-o (node-claims t) (node-at t) node.Post
   node-shared-slice-read-o c = search needs
 
+  node-byte-of-requires : node-lts.Need-byte-of-requires (node-claims t) (node-at t) node.Post
+  node-byte-of-requires c κs = search needs
+
   node-arity-requires : node-lts.Need-arity-requires (node-claims t) (node-at t) node.Post
   node-arity-requires c κs = search needs
 
@@ -178,7 +182,7 @@ module _ (t : ℕ) where
   node-same-length-4 c = search needs
 
   node-returns-4 : node-lts.Need-returns-4 (node-claims t) (node-at t) node.Post
-  node-returns-4 c = node-done _ _ _ _ _ _ _ (c .before .before .before .before .before .before .before .before .before .before .before .before .before .before .if2 .left) _ (c .before .before .before .before .before .before .before .before .before .before .before .arity .ensures) _ _ _ _ _ (c .before .before .before .before .before .before .before .before .args2 .ensures) _ _ _ _ (c .before .before .operate .ensures)
+  node-returns-4 c = node-done _ _ _ _ _ _ _ (c .before .before .before .before .before .before .before .before .before .before .before .before .before .before .before .if2 .left) _ (c .before .before .before .before .before .before .before .before .before .before .before .before .byte-of .ensures) _ (c .before .before .before .before .before .before .before .before .before .before .before .arity .ensures) _ _ _ _ _ (c .before .before .before .before .before .before .before .before .args2 .ensures) _ _ _ _ (c .before .before .operate .ensures)
 
 pub +args+node-spec : {M : Type 1} → statement M
-+args+node-spec = close μ-args μ-node (λ t. args-lts.spec (args-claims t) (args-at t) args.Post args-Inv-loop args-μ-loop (args-array-read-a0 t) (args-array-read-a1 t) (args-array-read-a2 t) (args-array-read-a3 t) (args-loop-holds t) (args-node-requires t) (args-same-length t) (args-same-length-2 t) (args-returns t) (args-pick-requires t) (args-pick-requires-2 t) (args-pick-requires-3 t) (args-pick-requires-4 t) (args-add-k t) (args-loop-less t) (args-loop-again t) (args-same-length-3 t) (args-same-length-4 t) (args-returns-2 t)) λ t. node-lts.spec (node-claims t) (node-at t) node.Post (node-sub-if1 t) (node-no-room-requires t) (node-returns t) (node-mul-if2 t) (node-shared-slice-read-if2 t) (node-leaf-requires t) (node-same-length t) (node-same-length-2 t) (node-returns-2 t) (node-no-room-requires-2 t) (node-returns-3 t) (node-add-o t) (node-mul-o t) (node-shared-slice-read-o t) (node-arity-requires t) (node-add-args t) (node-sub-args t) (node-args-requires t) (node-operate-requires t) (node-same-length-3 t) (node-same-length-4 t) (node-returns-4 t)
++args+node-spec = close μ-args μ-node (λ t. args-lts.spec (args-claims t) (args-at t) args.Post args-Inv-loop args-μ-loop (args-array-read-a0 t) (args-array-read-a1 t) (args-array-read-a2 t) (args-array-read-a3 t) (args-loop-holds t) (args-node-requires t) (args-same-length t) (args-same-length-2 t) (args-returns t) (args-pick-requires t) (args-pick-requires-2 t) (args-pick-requires-3 t) (args-pick-requires-4 t) (args-add-k t) (args-loop-less t) (args-loop-again t) (args-same-length-3 t) (args-same-length-4 t) (args-returns-2 t)) λ t. node-lts.spec (node-claims t) (node-at t) node.Post (node-sub-if1 t) (node-no-room-requires t) (node-returns t) (node-mul-if2 t) (node-shared-slice-read-if2 t) (node-leaf-requires t) (node-same-length t) (node-same-length-2 t) (node-returns-2 t) (node-no-room-requires-2 t) (node-returns-3 t) (node-add-o t) (node-mul-o t) (node-shared-slice-read-o t) (node-byte-of-requires t) (node-arity-requires t) (node-add-args t) (node-sub-args t) (node-args-requires t) (node-operate-requires t) (node-same-length-3 t) (node-same-length-4 t) (node-returns-4 t)

@@ -1,41 +1,21 @@
-use Rattle.comparer.proofs.Slots.{arity-none, arity-many, arity-at}
+use mathlib.Core.Path.{sym, _∙_}
+use native.Mathlib.Omega.{arith}
 use borrow.Author.Needs.{needs}
+use Rattle.comparer.proofs.Slots.{arity-few, arity-two, arity-many}
 use Rattle.comparer.proofs.evaluate.arity.Statement.{statement}
 use Rattle.comparer.proofs.evaluate.arity.Tie as tie
 
-wide-requires : tie.Need-wide-requires
-wide-requires c κs = search needs
-
 returns : tie.Need-returns
-returns c = arity-none _ _ _ (c .before .wide .ensures) (c .if1 .taken)
+returns c = let h = c .if1 .taken in arity-few _ (omega arith)
 
-add-wide : tie.Need-add-wide
-add-wide c = search needs
-
-mul-wide : tie.Need-mul-wide
-mul-wide c = search needs
-
-shared-slice-read-wide : tie.Need-shared-slice-read-wide
-shared-slice-read-wide c = search needs
-
-wide-requires-2 : tie.Need-wide-requires-2
-wide-requires-2 c κs = search needs
+swaps-requires : tie.Need-swaps-requires
+swaps-requires c κs = search needs
 
 returns-2 : tie.Need-returns-2
-returns-2 c = arity-many _ _ _ (c .before .before .before .before .wide .ensures) _ (c .before .wide2 .ensures) (c .if2 .taken)
+returns-2 c = arity-two _ _ (omega arith) (sym (c .before .swaps .ensures) ∙ c .if2 .taken)
 
 returns-3 : tie.Need-returns-3
-returns-3 c = arity-at _ _ _ (c .before .before .before .before .wide .ensures) _ (c .before .wide2 .ensures) (c .if2 .left)
+returns-3 c = let h = c .before .before .if1 .left in arity-many _ (omega arith) (sym (c .before .swaps .ensures) ∙ c .if2 .left)
 
 pub arity-spec : {M : Type 1} → statement M
-arity-spec =
-    tie.close
-    (tie.spec
-    wide-requires
-    returns
-    add-wide
-    mul-wide
-    shared-slice-read-wide
-    wide-requires-2
-    returns-2
-    returns-3)
+arity-spec = tie.close (tie.spec returns swaps-requires returns-2 returns-3)

@@ -29,7 +29,7 @@ shared-slice-read-if1-2 : tie.Need-shared-slice-read-if1-2 Inv-loop μ-loop
 shared-slice-read-if1-2 c = search needs
 
 returns : tie.Need-returns Inv-loop μ-loop
-returns c = record { low = c .before .before .before .before .loop .inv .0; high = c .before .before .before .before .loop .inv .1; same = c .before .before .before .before .loop .inv .2; apart = λ _ e. c .if1 .taken e }
+returns c = record { low = c .before .before .before .before .loop .inv .0; high = c .before .before .before .before .loop .inv .1; same = c .before .before .before .before .loop .inv .2; apart = λ _ e. let h = c .if1 .taken in absurd (omega arith) }
 
 add-i : tie.Need-add-i Inv-loop μ-loop
 add-i c = search needs
@@ -38,7 +38,7 @@ loop-less : tie.Need-loop-less Inv-loop μ-loop
 loop-less c = search needs
 
 loop-again : tie.Need-loop-again Inv-loop μ-loop
-loop-again c = (omega arith, omega arith, same-more (c .before .before .before .before .before .args .left .now) (c .before .before .before .before .before .args .right .now) _ (c .before .before .before .before .loop .i) (c .before .before .before .before .loop .inv .2) (c .if1 .left))
+loop-again c = (omega arith, omega arith, same-more (c .before .before .before .before .before .args .left .now) (c .before .before .before .before .before .args .right .now) _ (c .before .before .before .before .loop .i) (c .before .before .before .before .loop .inv .2) (let h = c .if1 .left in omega arith))
 
 returns-2 : tie.Need-returns-2 Inv-loop μ-loop
 returns-2 c = record { low = c .before .loop .inv .0; high = c .before .loop .inv .1; same = c .before .loop .inv .2; apart = λ h _. absurd (omega arith) }

@@ -23,7 +23,7 @@ use Rattle.reader.proofs.header.arrays_at.Statement.{statement}
 use Rattle.reader.proofs.header.arrays_at.Tie as tie
 
 abbrev Inv-loop : tie.InvT-loop
-Inv-loop s at n tables₀ after₀ before₀ place₀ k₀ tables after before place k = (xs : List Array) × (k ≤ n) × (n ≤ 16) × (length xs ≡ k) × (before ≡ sizes xs) × (before ≤ 2048) × Small xs × Behind (arrays n false 0 s at) xs (arrays (n - k) after before s place) × ((ops : List ℕ) → tables₀ ≡ packed (record { arities = ops; arrays = [] }) → tables ≡ packed (record { arities = ops; arrays = xs }))
+Inv-loop s at n tables₀ after₀ before₀ place₀ k₀ tables after before place k = (xs : List Array) × (k ≤ n) × (n ≤ 16) × (length xs ≡ k) × (before ≡ sizes xs) × (before ≤ 2048) × Small xs × Behind (arrays n false 0 s at) xs (arrays (n - k) after before s place) × ((ops : List ℕ) → tables₀ ≡ packed (record { operators = ops; arrays = [] }) → tables ≡ packed (record { operators = ops; arrays = xs }))
 
 abbrev μ-loop : tie.MeasureT-loop
 μ-loop s at n tables₀ after₀ before₀ place₀ k₀ tables after before place k = n - k

@@ -3,9 +3,9 @@ use mathlib.Core.Path.{_≡_, refl, sym, ap, _∙_}
 use mathlib.Core.Bool.{true}
 use Rattle.model.specs.Test.{within}
 use Rattle.reader.proofs.Forward.{held-got}
-use Rattle.reader.proofs.Steps.{field-got, field-no, ended-got, ended-no}
+use Rattle.reader.proofs.Steps.{field-got, field-no}
 use Rattle.reader.proofs.Depth.{tables-short, tables-long}
-use Rattle.reader.proofs.Heads.{within-is, checked-held, arities-is, arities-not, operators-no, operators-got, tables-head, tables-operators, tables-with, tables-refused}
+use Rattle.reader.proofs.Heads.{within-is, checked-held, operators-is, operators-not, operators-no, operators-got, tables-head, tables-operators, tables-with, tables-refused}
 use borrow.Author.Needs.{needs}
 use Rattle.reader.proofs.header.tables_of.Statement.{statement}
 use Rattle.reader.proofs.header.tables_of.Tie as tie
@@ -16,8 +16,8 @@ no-tables-requires c κs = search needs
 returns : tie.Need-returns
 returns c = let h = c .before .if1 .taken in tables-refused _ (tables-long _ (omega arith)) (c .no-tables .ensures .0) (c .no-tables .ensures .1)
 
-head-end-requires : tie.Need-head-end-requires
-head-end-requires c κs = search needs
+head-at-requires : tie.Need-head-at-requires
+head-at-requires c κs = search needs
 
 enum-known-number : tie.Need-enum-known-number
 enum-known-number c = search needs
@@ -25,8 +25,8 @@ enum-known-number c = search needs
 no-tables-requires-2 : tie.Need-no-tables-requires-2
 no-tables-requires-2 c κs = search needs
 
-enum-known-at : tie.Need-enum-known-at
-enum-known-at c = search needs
+enum-known-version : tie.Need-enum-known-version
+enum-known-version c = search needs
 
 count-at-requires : tie.Need-count-at-requires
 count-at-requires c κs = search needs
@@ -40,8 +40,8 @@ no-tables-requires-3 c κs = search needs
 enum-known-n : tie.Need-enum-known-n
 enum-known-n c = search needs
 
-arities-at-requires : tie.Need-arities-at-requires
-arities-at-requires c κs = within-is 0 16 (c .before .n .given .0 .0) (held-got (λ x n. within 0 16 x ≡ true) (checked-held _ _ _ _) (field-got (c .before .before .before .count-at .ensures) (c .before .n .given .1))) .1
+operators-at-requires : tie.Need-operators-at-requires
+operators-at-requires c κs = within-is 0 16 (c .before .n .given .0 .0) (held-got (λ x n. within 0 16 x ≡ true) (checked-held _ _ _ _) (field-got (c .before .before .before .count-at .ensures) (c .before .n .given .1))) .1
 
 enum-known-answer : tie.Need-enum-known-answer
 enum-known-answer c = search needs
@@ -56,20 +56,20 @@ arrays-of-requires : tie.Need-arrays-of-requires
 arrays-of-requires c κs = search needs
 
 returns-2 : tie.Need-returns-2
-returns-2 c = let h = c .before .before .before .before .before .if1 .left in tables-refused _ (tables-short _ (omega arith) ∙ tables-head _ _ (ended-no _ (c .before .before .before .before .head-end .ensures) (c .before .before .number .given .1))) (c .no-tables2 .ensures .0) (c .no-tables2 .ensures .1)
+returns-2 c = let h = c .before .before .before .before .before .if1 .left in tables-refused _ (tables-short _ (omega arith) ∙ tables-head _ _ (field-no (c .before .before .before .before .head-at .ensures) (c .before .before .number .given .1))) (c .no-tables2 .ensures .0) (c .no-tables2 .ensures .1)
 
 returns-3 : tie.Need-returns-3
-returns-3 c = let h = c .before .before .before .before .before .before .before .before .before .if1 .left in tables-refused _ (tables-short _ (omega arith) ∙ tables-operators _ _ (ended-got _ (c .before .before .before .before .before .before .before .before .head-end .ensures) (c .before .before .before .before .before .before .at .given .1) .1) (operators-no _ _ (field-no (c .before .before .before .before .count-at .ensures) (c .before .before .number2 .given .1)))) (c .no-tables3 .ensures .0) (c .no-tables3 .ensures .1)
+returns-3 c = let h = c .before .before .before .before .before .before .before .before .before .if1 .left in tables-refused _ (tables-short _ (omega arith) ∙ tables-operators _ _ (field-got (c .before .before .before .before .before .before .before .before .head-at .ensures) (c .before .before .before .before .before .before .version .given .1)) (operators-no _ _ _ (field-no (c .before .before .before .before .count-at .ensures) (c .before .before .number2 .given .1)))) (c .no-tables3 .ensures .0) (c .no-tables3 .ensures .1)
 
 returns-4 : tie.Need-returns-4
-returns-4 c = let h = c .before .before .before .before .before .before .before .before .before .before .before .before .before .before .if1 .left in tables-refused _ (tables-short _ (omega arith) ∙ tables-operators _ _ (ended-got _ (c .before .before .before .before .before .before .before .before .before .before .before .before .before .head-end .ensures) (c .before .before .before .before .before .before .before .before .before .before .before .at .given .1) .1)
-    (operators-got _ _ (field-got (c .before .before .before .before .before .before .before .before .before .count-at .ensures) (c .before .before .before .before .before .before .before .n .given .1)) ∙ arities-not (c .before .before .before .before .before .before .before .n .given .0 .0) _ (c .before .before .before .before .before .arities-at .result) (c .before .before .before .before .before .arities-at .ensures) (c .before .before .answer .given .1)))
+returns-4 c = let h = c .before .before .before .before .before .before .before .before .before .before .before .before .before .before .if1 .left in tables-refused _ (tables-short _ (omega arith) ∙ tables-operators _ _ (field-got (c .before .before .before .before .before .before .before .before .before .before .before .before .before .head-at .ensures) (c .before .before .before .before .before .before .before .before .before .before .before .version .given .1))
+    (operators-got _ _ _ (field-got (c .before .before .before .before .before .before .before .before .before .count-at .ensures) (c .before .before .before .before .before .before .before .n .given .1)) ∙ operators-not (c .before .before .before .before .before .before .before .n .given .0 .0) _ (c .before .before .before .before .before .operators-at .result) (c .before .before .before .before .before .operators-at .ensures) (c .before .before .answer .given .1)))
     (c .no-tables4 .ensures .0) (c .no-tables4 .ensures .1)
 
 returns-5 : tie.Need-returns-5
 returns-5 c = let w = within-is 0 16 (c .before .before .before .before .before .before .before .n .given .0 .0) (held-got (λ x n. within 0 16 x ≡ true) (checked-held _ _ _ _) (field-got (c .before .before .before .before .before .before .before .before .before .count-at .ensures) (c .before .before .before .before .before .before .before .n .given .1))) in
-    let v = arities-is (c .before .before .before .before .before .before .before .n .given .0 .0) _ (c .before .before .before .before .before .arities-at .result) (c .before .before .before .before .before .arities-at .ensures) (c .before .before .answer2 .given .1) in
-    let h = c .before .before .before .before .before .before .before .before .before .before .before .before .before .before .if1 .left in rw (tables-short _ (omega arith) ∙ tables-with _ _ (ended-got _ (c .before .before .before .before .before .before .before .before .before .before .before .before .before .head-end .ensures) (c .before .before .before .before .before .before .before .before .before .before .before .at .given .1) .1) (operators-got _ _ (field-got (c .before .before .before .before .before .before .before .before .before .count-at .ensures) (c .before .before .before .before .before .before .before .n .given .1)) ∙ v .1))
+    let v = operators-is (c .before .before .before .before .before .before .before .n .given .0 .0) _ (c .before .before .before .before .before .operators-at .result) (c .before .before .before .before .before .operators-at .ensures) (c .before .before .answer2 .given .1) in
+    let h = c .before .before .before .before .before .before .before .before .before .before .before .before .before .before .if1 .left in rw (tables-short _ (omega arith) ∙ tables-with _ _ (field-got (c .before .before .before .before .before .before .before .before .before .before .before .before .before .head-at .ensures) (c .before .before .before .before .before .before .before .before .before .before .before .version .given .1)) (operators-got _ _ _ (field-got (c .before .before .before .before .before .before .before .before .before .count-at .ensures) (c .before .before .before .before .before .before .before .n .given .1)) ∙ v .1))
     (c .arrays-of .ensures (v .0) (v .3) (omega (arith, v .3, w .1)) (v .2))
 
 pub tables-of-spec : {M : Type 1} → statement M
@@ -78,15 +78,15 @@ tables-of-spec =
     (tie.spec
     no-tables-requires
     returns
-    head-end-requires
+    head-at-requires
     enum-known-number
     no-tables-requires-2
-    enum-known-at
+    enum-known-version
     count-at-requires
     enum-known-number-2
     no-tables-requires-3
     enum-known-n
-    arities-at-requires
+    operators-at-requires
     enum-known-answer
     no-tables-requires-4
     enum-known-answer-2

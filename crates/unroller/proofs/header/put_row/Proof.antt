@@ -8,7 +8,7 @@ use lib.ListN.{length, getD, set, length-set}
 use lib.Seq.{sets}
 use Rattle.unroller.specs.UnrollAnswers.{rows}
 use Rattle.reader.proofs.Packing.{operators-are, arrays-are}
-use Rattle.unroller.proofs.HeaderWords.{row-put, head-put, Arities, arities-none, arities-more, arities-all, Rows, rows-first, rows-again, rows-done}
+use Rattle.unroller.proofs.HeaderWords.{row-put, head-put, Rows, rows-first, rows-again, rows-done}
 use Rattle.unroller.proofs.header.put_row.Statement.{statement}
 use Rattle.unroller.proofs.header.put_row.Tie as tie
 

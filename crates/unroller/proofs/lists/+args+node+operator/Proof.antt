@@ -21,7 +21,10 @@ use Rattle.unroller.proofs.lists.operator.Reads as operator
 use Rattle.unroller.proofs.lists.operator.Kinds as operator-kinds
 use Rattle.unroller.proofs.lists.+args+node+operator.Lts-operator as operator-lts
 use Rattle.unroller.proofs.lists.leaf.Reads as leaf-reads
+use mathlib.Core.Path.{ap, _∙_}
+use Rattle.model.specs.Tables.{arityOf}
 use Rattle.model.proofs.numbers.wide.Reads as wide-reads
+use Rattle.model.proofs.operator.arity.Reads as arity-reads
 use Rattle.unroller.proofs.lists.+args+node+operator.{statement}
 use Rattle.unroller.proofs.lists.+args+node+operator.Tie.{close}
 
@@ -67,7 +70,7 @@ abbrev node-claims : ℕ → node-lts.Claims
 node-claims t = (operator-below t, operator.Post, leaf-reads.Asked, leaf-reads.Learnt)
 
 abbrev operator-claims : ℕ → operator-lts.Claims
-operator-claims t = (wide-reads.Asked, wide-reads.Learnt, args-below t, args.Post)
+operator-claims t = (wide-reads.Asked, wide-reads.Learnt, arity-reads.Asked, arity-reads.Learnt, args-below t, args.Post)
 
 module _ (t : ℕ) where
   args-loop-holds : args-lts.Need-loop-holds (args-claims t) (args-at t) args.Post args-Inv-loop args-μ-loop
@@ -213,25 +216,32 @@ module _ (t : ℕ) where
   operator-wide-requires : operator-lts.Need-wide-requires (operator-claims t) (operator-at t) operator.Post
   operator-wide-requires c κs = search needs
 
+  operator-mul-wide : operator-lts.Need-mul-wide (operator-claims t) (operator-at t) operator.Post
+  operator-mul-wide c = search needs
+
+  operator-shared-slice-read-wide : operator-lts.Need-shared-slice-read-wide (operator-claims t) (operator-at t) operator.Post
+  operator-shared-slice-read-wide c = search needs
+
+  operator-wide-requires-2 : operator-lts.Need-wide-requires-2 (operator-claims t) (operator-at t) operator.Post
+  operator-wide-requires-2 c κs = search needs
+
   operator-sub-args : operator-lts.Need-sub-args (operator-claims t) (operator-at t) operator.Post
   operator-sub-args c = omega arith
 
-  operator-mul-args : operator-lts.Need-mul-args (operator-claims t) (operator-at t) operator.Post
-  operator-mul-args c = search needs
-
-  operator-shared-slice-read-args : operator-lts.Need-shared-slice-read-args (operator-claims t) (operator-at t) operator.Post
-  operator-shared-slice-read-args c = search needs
+  operator-arity-requires : operator-lts.Need-arity-requires (operator-claims t) (operator-at t) operator.Post
+  operator-arity-requires c κs = search needs
 
   operator-args-requires : operator-lts.Need-args-requires (operator-claims t) (operator-at t) operator.Post
   operator-args-requires c κs = omega arith
 
   operator-returns-2 : operator-lts.Need-returns-2 (operator-claims t) (operator-at t) operator.Post
   operator-returns-2 c =
-      let a = c .before .before .before .before .before .before .before .before .args in
+      let a = c .before .before .before .before .before .before .before .before .before .before .args in
       let s = a .list .now in
       let o = a .ops .now in
       let f = readableIn (a .state .now) in
-      operator-some o f s (a .at) (a .left) (a .left - 1) (c .before .before .before .wide .result) (a .o) (answerOf (c .args2 .result)) (omega arith) (c .before .before .before .wide .ensures) (c .before .before .if2 .taken) (c .args2 .ensures)
+      operator-some o f s (a .at) (a .left) (a .left - 1) (c .before .before .before .before .before .wide .result) (a .o) (c .before .arity .result) (answerOf (c .args2 .result)) (omega arith)
+      (c .before .before .before .before .before .wide .ensures) (c .before .before .before .before .if2 .taken) (c .before .arity .ensures ∙ ap arityOf (c .before .before .wide2 .ensures)) (c .args2 .ensures)
 
   operator-returns-3 : operator-lts.Need-returns-3 (operator-claims t) (operator-at t) operator.Post
   operator-returns-3 c =
@@ -242,4 +252,4 @@ module _ (t : ℕ) where
       operator-unknown o f s (a .at) (a .left) (a .o) (omega arith)
 
 pub +args+node+operator-spec : {M : Type 1} → statement M
-+args+node+operator-spec = close μ-args μ-node μ-operator (λ t. args-lts.spec (args-claims t) (args-at t) args.Post args-Inv-loop args-μ-loop (args-loop-holds t) (args-node-requires t) (args-returns t) (args-sub-more t) (args-loop-less t) (args-loop-again t) (args-returns-2 t)) (λ t. node-lts.spec (node-claims t) (node-at t) node.Post (node-returns t) (node-sub-if2 t) (node-returns-2 t) (node-mul-code t) (node-shared-slice-read-code t) (node-add-x t) (node-mul-x t) (node-shared-slice-read-x t) (node-add-y t) (node-mul-y t) (node-shared-slice-read-y t) (node-add-operator t) (node-operator-requires t) (node-returns-3 t) (node-returns-4 t) (node-leaf-requires t) (node-add-result t) (node-returns-5 t) (node-returns-6 t)) λ t. operator-lts.spec (operator-claims t) (operator-at t) operator.Post (operator-returns t) (operator-wide-requires t) (operator-sub-args t) (operator-mul-args t) (operator-shared-slice-read-args t) (operator-args-requires t) (operator-returns-2 t) (operator-returns-3 t)
++args+node+operator-spec = close μ-args μ-node μ-operator (λ t. args-lts.spec (args-claims t) (args-at t) args.Post args-Inv-loop args-μ-loop (args-loop-holds t) (args-node-requires t) (args-returns t) (args-sub-more t) (args-loop-less t) (args-loop-again t) (args-returns-2 t)) (λ t. node-lts.spec (node-claims t) (node-at t) node.Post (node-returns t) (node-sub-if2 t) (node-returns-2 t) (node-mul-code t) (node-shared-slice-read-code t) (node-add-x t) (node-mul-x t) (node-shared-slice-read-x t) (node-add-y t) (node-mul-y t) (node-shared-slice-read-y t) (node-add-operator t) (node-operator-requires t) (node-returns-3 t) (node-returns-4 t) (node-leaf-requires t) (node-add-result t) (node-returns-5 t) (node-returns-6 t)) λ t. operator-lts.spec (operator-claims t) (operator-at t) operator.Post (operator-returns t) (operator-wide-requires t) (operator-mul-wide t) (operator-shared-slice-read-wide t) (operator-wide-requires-2 t) (operator-sub-args t) (operator-arity-requires t) (operator-args-requires t) (operator-returns-2 t) (operator-returns-3 t)

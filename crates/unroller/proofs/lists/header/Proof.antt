@@ -5,7 +5,7 @@ use mathlib.Core.Path.{refl}
 use Prim.Native.Nat.{_+_, _-_}
 use lib.ListN.{getD}
 use borrow.Author.Tests.{not-true, not-false}
-use Rattle.unroller.proofs.CheckTable.{head-count, head-arities, head-blank, head-low, head-high, head-arrays, head-all, arities-true, zeros-true, arrays-true}
+use Rattle.unroller.proofs.CheckTable.{head-count, head-operators, head-blank, head-low, head-high, head-arrays, head-all, operators-true, zeros-true, arrays-true}
 use Rattle.unroller.proofs.lists.header.Statement.{statement}
 use Rattle.unroller.proofs.lists.header.Tie as tie
 
@@ -24,8 +24,8 @@ returns c =
     let h = c .before .before .before .before .before .pre .0 in
     head-count s n m h (c .before .wide .ensures) refl (c .if1 .taken)
 
-arities-at-requires : tie.Need-arities-at-requires
-arities-at-requires c κs = omega arith
+operators-at-requires : tie.Need-operators-at-requires
+operators-at-requires c κs = omega arith
 
 returns-2 : tie.Need-returns-2
 returns-2 c =
@@ -34,7 +34,7 @@ returns-2 c =
     let n = c .before .before .before .wide .result in
     let m = getD s 17 0 in
     let h = c .before .before .before .before .before .before .before .pre .0 in
-    head-arities s n m h (c .before .before .before .wide .ensures) refl (c .before .before .if1 .left) _ (not-true (c .before .arities-at .result) (c .if2 .taken)) (c .before .arities-at .ensures)
+    head-operators s n m h (c .before .before .before .wide .ensures) refl (c .before .before .if1 .left) _ (not-true (c .before .operators-at .result) (c .if2 .taken)) (c .before .operators-at .ensures)
 
 add-zeros-at : tie.Need-add-zeros-at
 add-zeros-at c = omega arith
@@ -49,7 +49,7 @@ returns-3 c =
     let n = c .before .before .before .before .before .wide .result in
     let m = getD s 17 0 in
     let h = c .before .before .before .before .before .before .before .before .before .pre .0 in
-    head-blank s n m h (c .before .before .before .before .before .wide .ensures) refl (c .before .before .before .before .if1 .left) (arities-true s 1 n _ (not-false (c .before .before .before .arities-at .result) (c .before .before .if2 .left)) (c .before .before .before .arities-at .ensures)) _ (not-true (c .before .zeros-at .result) (c .if3 .taken)) (c .before .zeros-at .ensures)
+    head-blank s n m h (c .before .before .before .before .before .wide .ensures) refl (c .before .before .before .before .if1 .left) (operators-true s 1 n _ (not-false (c .before .before .before .operators-at .result) (c .before .before .if2 .left)) (c .before .before .before .operators-at .ensures)) _ (not-true (c .before .zeros-at .result) (c .if3 .taken)) (c .before .zeros-at .ensures)
 
 shared-slice-read-wide-2 : tie.Need-shared-slice-read-wide-2
 shared-slice-read-wide-2 c = omega arith
@@ -64,7 +64,7 @@ returns-4 c =
     let n = c .before .before .before .before .before .before .before .before .wide .result in
     let m = c .before .wide2 .result in
     let h = c .before .before .before .before .before .before .before .before .before .before .before .before .pre .0 in
-    head-low s n m h (c .before .before .before .before .before .before .before .before .wide .ensures) (c .before .wide2 .ensures) (c .before .before .before .before .before .before .before .if1 .left) (arities-true s 1 n _ (not-false (c .before .before .before .before .before .before .arities-at .result) (c .before .before .before .before .before .if2 .left)) (c .before .before .before .before .before .before .arities-at .ensures)) (zeros-true s (1 + n) (16 - n) _ (not-false (c .before .before .before .before .zeros-at .result) (c .before .before .before .if3 .left)) (c .before .before .before .before .zeros-at .ensures)) (c .if4 .taken)
+    head-low s n m h (c .before .before .before .before .before .before .before .before .wide .ensures) (c .before .wide2 .ensures) (c .before .before .before .before .before .before .before .if1 .left) (operators-true s 1 n _ (not-false (c .before .before .before .before .before .before .operators-at .result) (c .before .before .before .before .before .if2 .left)) (c .before .before .before .before .before .before .operators-at .ensures)) (zeros-true s (1 + n) (16 - n) _ (not-false (c .before .before .before .before .zeros-at .result) (c .before .before .before .if3 .left)) (c .before .before .before .before .zeros-at .ensures)) (c .if4 .taken)
 
 returns-5 : tie.Need-returns-5
 returns-5 c =
@@ -73,7 +73,7 @@ returns-5 c =
     let n = c .before .before .before .before .before .before .before .before .before .wide .result in
     let m = c .before .before .wide2 .result in
     let h = c .before .before .before .before .before .before .before .before .before .before .before .before .before .pre .0 in
-    head-high s n m h (c .before .before .before .before .before .before .before .before .before .wide .ensures) (c .before .before .wide2 .ensures) (c .before .before .before .before .before .before .before .before .if1 .left) (arities-true s 1 n _ (not-false (c .before .before .before .before .before .before .before .arities-at .result) (c .before .before .before .before .before .before .if2 .left)) (c .before .before .before .before .before .before .before .arities-at .ensures)) (zeros-true s (1 + n) (16 - n) _ (not-false (c .before .before .before .before .before .zeros-at .result) (c .before .before .before .before .if3 .left)) (c .before .before .before .before .before .zeros-at .ensures)) (c .if5 .taken)
+    head-high s n m h (c .before .before .before .before .before .before .before .before .before .wide .ensures) (c .before .before .wide2 .ensures) (c .before .before .before .before .before .before .before .before .if1 .left) (operators-true s 1 n _ (not-false (c .before .before .before .before .before .before .before .operators-at .result) (c .before .before .before .before .before .before .if2 .left)) (c .before .before .before .before .before .before .before .operators-at .ensures)) (zeros-true s (1 + n) (16 - n) _ (not-false (c .before .before .before .before .before .zeros-at .result) (c .before .before .before .before .if3 .left)) (c .before .before .before .before .before .zeros-at .ensures)) (c .if5 .taken)
 
 arrays-at-requires : tie.Need-arrays-at-requires
 arrays-at-requires c κs = ((c .before .before .before .before .before .before .before .before .before .before .before .before .before .before .pre .0, c .before .if5 .left), c .before .before .before .before .before .before .before .before .before .before .before .before .before .before .pre .1)
@@ -88,7 +88,7 @@ returns-6 c =
     let n = c .before .before .before .before .before .before .before .before .before .before .before .before .before .before .wide .result in
     let m = c .before .before .before .before .before .before .before .wide2 .result in
     let h = c .before .before .before .before .before .before .before .before .before .before .before .before .before .before .before .before .before .before .pre .0 in
-    head-arrays s n m h (c .before .before .before .before .before .before .before .before .before .before .before .before .before .before .wide .ensures) (c .before .before .before .before .before .before .before .wide2 .ensures) (c .before .before .before .before .before .before .before .before .before .before .before .before .before .if1 .left) (arities-true s 1 n _ (not-false (c .before .before .before .before .before .before .before .before .before .before .before .before .arities-at .result) (c .before .before .before .before .before .before .before .before .before .before .before .if2 .left)) (c .before .before .before .before .before .before .before .before .before .before .before .before .arities-at .ensures)) (zeros-true s (1 + n) (16 - n) _ (not-false (c .before .before .before .before .before .before .before .before .before .before .zeros-at .result) (c .before .before .before .before .before .before .before .before .before .if3 .left)) (c .before .before .before .before .before .before .before .before .before .before .zeros-at .ensures)) (c .before .before .before .before .before .before .if4 .left) (c .before .before .before .before .before .if5 .left) _ _ (not-true (c .before .before .before .arrays-at .result) (c .if6 .taken)) (c .before .before .before .arrays-at .ensures)
+    head-arrays s n m h (c .before .before .before .before .before .before .before .before .before .before .before .before .before .before .wide .ensures) (c .before .before .before .before .before .before .before .wide2 .ensures) (c .before .before .before .before .before .before .before .before .before .before .before .before .before .if1 .left) (operators-true s 1 n _ (not-false (c .before .before .before .before .before .before .before .before .before .before .before .before .operators-at .result) (c .before .before .before .before .before .before .before .before .before .before .before .if2 .left)) (c .before .before .before .before .before .before .before .before .before .before .before .before .operators-at .ensures)) (zeros-true s (1 + n) (16 - n) _ (not-false (c .before .before .before .before .before .before .before .before .before .before .zeros-at .result) (c .before .before .before .before .before .before .before .before .before .if3 .left)) (c .before .before .before .before .before .before .before .before .before .before .zeros-at .ensures)) (c .before .before .before .before .before .before .if4 .left) (c .before .before .before .before .before .if5 .left) _ _ (not-true (c .before .before .before .arrays-at .result) (c .if6 .taken)) (c .before .before .before .arrays-at .ensures)
 
 mul-zeros-at : tie.Need-mul-zeros-at
 mul-zeros-at c = omega arith
@@ -112,7 +112,7 @@ returns-7 c =
     let n = c .before .before .before .before .before .before .before .before .before .before .before .before .before .before .before .wide .result in
     let m = c .before .before .before .before .before .before .before .before .wide2 .result in
     let h = c .before .before .before .before .before .before .before .before .before .before .before .before .before .before .before .before .before .before .before .pre .0 in
-    head-all s n m h (c .before .before .before .before .before .before .before .before .before .before .before .before .before .before .before .wide .ensures) (c .before .before .before .before .before .before .before .before .wide2 .ensures) (c .before .before .before .before .before .before .before .before .before .before .before .before .before .before .if1 .left) (arities-true s 1 n _ (not-false (c .before .before .before .before .before .before .before .before .before .before .before .before .before .arities-at .result) (c .before .before .before .before .before .before .before .before .before .before .before .before .if2 .left)) (c .before .before .before .before .before .before .before .before .before .before .before .before .before .arities-at .ensures)) (zeros-true s (1 + n) (16 - n) _ (not-false (c .before .before .before .before .before .before .before .before .before .before .before .zeros-at .result) (c .before .before .before .before .before .before .before .before .before .before .if3 .left)) (c .before .before .before .before .before .before .before .before .before .before .before .zeros-at .ensures)) (c .before .before .before .before .before .before .before .if4 .left) (c .before .before .before .before .before .before .if5 .left) _ (arrays-true s m _ _ (not-false (c .before .before .before .before .arrays-at .result) (c .before .if6 .left)) (c .before .before .before .before .arrays-at .ensures)) (c .zeros-at2 .result) (c .zeros-at2 .ensures)
+    head-all s n m h (c .before .before .before .before .before .before .before .before .before .before .before .before .before .before .before .wide .ensures) (c .before .before .before .before .before .before .before .before .wide2 .ensures) (c .before .before .before .before .before .before .before .before .before .before .before .before .before .before .if1 .left) (operators-true s 1 n _ (not-false (c .before .before .before .before .before .before .before .before .before .before .before .before .before .operators-at .result) (c .before .before .before .before .before .before .before .before .before .before .before .before .if2 .left)) (c .before .before .before .before .before .before .before .before .before .before .before .before .before .operators-at .ensures)) (zeros-true s (1 + n) (16 - n) _ (not-false (c .before .before .before .before .before .before .before .before .before .before .before .zeros-at .result) (c .before .before .before .before .before .before .before .before .before .before .if3 .left)) (c .before .before .before .before .before .before .before .before .before .before .before .zeros-at .ensures)) (c .before .before .before .before .before .before .before .if4 .left) (c .before .before .before .before .before .before .if5 .left) _ (arrays-true s m _ _ (not-false (c .before .before .before .before .arrays-at .result) (c .before .if6 .left)) (c .before .before .before .before .arrays-at .ensures)) (c .zeros-at2 .result) (c .zeros-at2 .ensures)
 
 pub header-spec : {M : Type 1} → statement M
-header-spec = tie.close (tie.spec shared-slice-read-wide wide-requires returns arities-at-requires returns-2 add-zeros-at zeros-at-requires returns-3 shared-slice-read-wide-2 wide-requires-2 returns-4 returns-5 arrays-at-requires same-length returns-6 mul-zeros-at add-zeros-at-2 mul-zeros-at-2 zeros-at-requires-2 same-length-2 returns-7)
+header-spec = tie.close (tie.spec shared-slice-read-wide wide-requires returns operators-at-requires returns-2 add-zeros-at zeros-at-requires returns-3 shared-slice-read-wide-2 wide-requires-2 returns-4 returns-5 arrays-at-requires same-length returns-6 mul-zeros-at add-zeros-at-2 mul-zeros-at-2 zeros-at-requires-2 same-length-2 returns-7)
