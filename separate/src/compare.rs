@@ -5,7 +5,7 @@ use crate::list::{self, decode, List, Record, HEADER};
 use crate::read::read_program;
 use crate::reply::{Question, Refusal, Reply, Side};
 use crate::run::run;
-use crate::tables::Tables;
+use crate::tables::{self, Tables};
 use crate::terms::{self, Store};
 
 /// Every bit set: the mask of the plain entry.
@@ -213,11 +213,16 @@ impl Evaluation<'_, '_> {
                 list::code::LITERAL => self.store.intern(terms::literal(first))?,
                 list::code::CONSTANT => self.store.intern(terms::constant(first))?,
                 _ => {
-                    let arity = usize::from(self.tables.operators()[first as usize]);
+                    let operator = self.tables.operators()[first as usize];
                     let mut arguments = [0; 4];
-                    for argument in &mut arguments[..arity] {
+                    for argument in &mut arguments[..usize::from(tables::arity(operator))] {
                         count -= 1;
                         *argument = self.waiting[count];
+                    }
+                    // Terms alike up to swaps have one number, so in one order
+                    // of numbers they are the same term here too.
+                    if operator == tables::MARKED {
+                        arguments[..2].sort_unstable();
                     }
                     self.store.intern(terms::operator(first, arguments))?
                 }

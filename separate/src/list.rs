@@ -59,8 +59,8 @@ pub fn write_header(tables: &Tables, header: &mut [u32; HEADER]) {
     header.fill(0);
     let (operators, arrays) = header.split_at_mut(1 + OPERATORS);
     operators[0] = tables.operators().len() as u32;
-    for (word, &arity) in operators[1..].iter_mut().zip(tables.operators()) {
-        *word = u32::from(arity);
+    for (word, &operator) in operators[1..].iter_mut().zip(tables.operators()) {
+        *word = u32::from(operator);
     }
     arrays[0] = tables.arrays().len() as u32;
     for (words, array) in arrays[1..].chunks_exact_mut(ARRAY_WORDS).zip(tables.arrays()) {
@@ -101,16 +101,17 @@ fn read_header(header: &[u32; HEADER]) -> Option<Tables> {
     Some(tables)
 }
 
-fn read_operators(count: u32, arities: &[u32], tables: &mut Tables) -> Option<()> {
+/// A list has no version, so marks are allowed in each.
+fn read_operators(count: u32, operators: &[u32], tables: &mut Tables) -> Option<()> {
     if !tables::operator_count_allowed(count) {
         return None;
     }
-    let (used, unused) = arities.split_at(count as usize);
-    for &arity in used {
-        if !tables::arity_allowed(arity) {
+    let (used, unused) = operators.split_at(count as usize);
+    for &operator in used {
+        if !tables::operator_allowed(operator) {
             return None;
         }
-        tables.add_operator(arity as u8);
+        tables.add_operator(operator as u8);
     }
     all_zero(unused).then_some(())
 }
@@ -224,8 +225,8 @@ impl<'a> Walk<'a> {
     }
 
     fn operator(&self, [_, number, unused]: Record) -> Option<u8> {
-        let arity = *self.tables.operators().get(number as usize)?;
-        (unused == 0).then_some(arity)
+        let operator = *self.tables.operators().get(number as usize)?;
+        (unused == 0).then_some(tables::arity(operator))
     }
 
     fn leaf(&self, [first, second, third]: Record) -> Option<()> {

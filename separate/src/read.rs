@@ -11,7 +11,11 @@ use crate::reply::{Question, Refusal};
 use crate::tables::{self, Array, Tables};
 
 pub const MARK: [u8; 3] = *b"ALP";
-pub const VERSION: u16 = 1;
+
+/// The version in which no operator is marked.
+pub const UNMARKED: u16 = 1;
+/// The version in which operators may be marked.
+pub const MARKS: u16 = 2;
 
 /// The code bytes of a file.
 pub mod code {
@@ -73,6 +77,7 @@ pub enum Node {
 
 #[derive(Clone, Debug, Default, PartialEq, Eq)]
 pub struct Program {
+    pub version: u16,
     pub tables: Tables,
     pub items: Vec<Item>,
     pub forms: Vec<Form>,
@@ -147,14 +152,20 @@ impl<'a> Reader<'a> {
         Question::Mark.ask(mark == MARK, place)?;
         let place = self.place;
         let version = u16::from_le_bytes(self.field()?);
-        Question::Version.ask(version == VERSION, place)
+        Question::Version.ask([UNMARKED, MARKS].contains(&version), place)?;
+        self.program.version = version;
+        Ok(())
     }
 
     fn operators(&mut self) -> Result<(), Refusal> {
         let count = self.asked_byte(Question::OperatorTable, tables::operator_count_allowed)?;
+        let allowed = match self.program.version {
+            UNMARKED => tables::arity_allowed,
+            _ => tables::operator_allowed,
+        };
         for _ in 0..count {
-            let arity = self.asked_byte(Question::OperatorTable, tables::arity_allowed)?;
-            self.program.tables.add_operator(arity);
+            let operator = self.asked_byte(Question::OperatorTable, allowed)?;
+            self.program.tables.add_operator(operator);
         }
         Ok(())
     }
@@ -304,10 +315,10 @@ impl<'a> Reader<'a> {
     fn operator(&mut self, loops: usize, nesting: usize) -> Result<(), Refusal> {
         let place = self.place;
         let number = self.byte()?;
-        let arity = self.program.tables.operators().get(usize::from(number)).copied();
-        let arity = arity.ok_or(Question::Declared.at(place))?;
+        let operator = self.program.tables.operators().get(usize::from(number)).copied();
+        let operator = operator.ok_or(Question::Declared.at(place))?;
         self.program.nodes.push(Node::Operator { number });
-        for _ in 0..arity {
+        for _ in 0..tables::arity(operator) {
             self.expression(loops, nesting)?;
         }
         Ok(())

@@ -62,8 +62,25 @@ pub fn operator_count_allowed(count: u32) -> bool {
     count <= OPERATORS as u32
 }
 
+/// The byte of an operator of two arguments that may swap: it is marked, and
+/// its meanings give the same value for both orders. The byte of every other
+/// operator is its arity.
+pub const MARKED: u8 = 0x82;
+
+pub fn arity(operator: u8) -> u8 {
+    if operator == MARKED {
+        2
+    } else {
+        operator
+    }
+}
+
 pub fn arity_allowed(arity: u32) -> bool {
     (1..=ARITY as u32).contains(&arity)
+}
+
+pub fn operator_allowed(operator: u32) -> bool {
+    arity_allowed(operator) || operator == u32::from(MARKED)
 }
 
 pub fn array_count_allowed(count: u32) -> bool {
@@ -81,7 +98,7 @@ pub fn extent_allowed(extent: u32) -> bool {
 #[derive(Clone, Debug, Default, PartialEq, Eq)]
 pub struct Tables {
     operator_count: usize,
-    arities: [u8; OPERATORS],
+    operators: [u8; OPERATORS],
     array_count: usize,
     arrays: [Array; ARRAYS],
     /// Cells before each array; the entry behind the last is the sum.
@@ -89,9 +106,9 @@ pub struct Tables {
 }
 
 impl Tables {
-    /// The arity of each declared operator.
+    /// The byte of each declared operator.
     pub fn operators(&self) -> &[u8] {
-        &self.arities[..self.operator_count]
+        &self.operators[..self.operator_count]
     }
 
     pub fn arrays(&self) -> &[Array] {
@@ -113,8 +130,8 @@ impl Tables {
         self.first_cells[self.array_count]
     }
 
-    pub fn add_operator(&mut self, arity: u8) {
-        self.arities[self.operator_count] = arity;
+    pub fn add_operator(&mut self, operator: u8) {
+        self.operators[self.operator_count] = operator;
         self.operator_count += 1;
     }
 

@@ -2,6 +2,8 @@
 //!
 //! Two terms are the same exactly if their numbers are, so values are compared
 //! by number and an operator's arguments are numbers of terms stored before.
+//! Which arguments may swap is the caller's to know: one that gives these in
+//! one order has a number for each class of terms alike up to swaps.
 
 use crate::limits::{TERMS, TERM_WORDS};
 

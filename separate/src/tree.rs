@@ -5,7 +5,7 @@
 
 use crate::limits::{ARRAYS, CELLS, ITEM_NESTING, OPERATORS, OPERATOR_NESTING};
 use crate::read::{self, code, Node, Program};
-use crate::tables::Role;
+use crate::tables::{self, Role};
 
 /// One coefficient for each enclosing loop, outermost first.
 #[derive(Clone, Debug, PartialEq, Eq)]
@@ -64,7 +64,10 @@ impl Declaration {
 
 #[derive(Clone, Debug, Default, PartialEq, Eq)]
 pub struct Source {
-    pub arities: Vec<u8>,
+    /// Nothing where it is the one that `least_version` gives.
+    pub version: Option<u16>,
+    /// The byte of each operator.
+    pub operators: Vec<u8>,
     pub arrays: Vec<Declaration>,
     pub items: Vec<Item>,
 }
@@ -232,9 +235,18 @@ impl Source {
         self.arrays.iter().map(Declaration::cells).sum()
     }
 
+    /// The first version that admits the operators.
+    pub fn least_version(&self) -> u16 {
+        if self.operators.contains(&tables::MARKED) {
+            read::MARKS
+        } else {
+            read::UNMARKED
+        }
+    }
+
     /// Do all numbers fit their fields, and is nothing too deep or too much?
     pub fn fits(&self) -> bool {
-        let mut fits = self.arities.len() <= OPERATORS
+        let mut fits = self.operators.len() <= OPERATORS
             && self.arrays.len() <= ARRAYS
             && self.cells() <= CELLS
             && nesting(&self.items) <= ITEM_NESTING;
@@ -251,15 +263,18 @@ impl Source {
     /// The tree of a program that was read.
     pub fn of(program: &Program) -> Source {
         let tables = &program.tables;
-        let declaration = |array: &crate::tables::Array| Declaration {
+        let declaration = |array: &tables::Array| Declaration {
             role: array.role,
             extents: array.extents().to_vec(),
         };
-        Source {
-            arities: tables.operators().to_vec(),
+        let mut source = Source {
+            version: None,
+            operators: tables.operators().to_vec(),
             arrays: tables.arrays().iter().map(declaration).collect(),
             items: Grow { program }.items(0, program.items.len(), 0),
-        }
+        };
+        source.version = (program.version != source.least_version()).then_some(program.version);
+        source
     }
 }
 
@@ -321,7 +336,7 @@ impl Grow<'_> {
             }
             Node::Operator { number } => {
                 let number = usize::from(number);
-                let arity = self.program.tables.operators()[number];
+                let arity = tables::arity(self.program.tables.operators()[number]);
                 let arguments = (0..arity).map(|_| self.expression(nodes, loops)).collect();
                 Expression::Operator { number, arguments }
             }
@@ -334,8 +349,10 @@ impl Grow<'_> {
 /// The fields of a file, as far as damage aims at them.
 #[derive(Clone, Copy, Debug, PartialEq, Eq)]
 pub enum Field {
+    /// Noted only where the tree gives it.
+    Version,
     OperatorCount,
-    Arity,
+    Operator,
     ArrayCount,
     Role,
     DimensionCount,
@@ -359,7 +376,10 @@ pub struct Encoded {
 pub fn encode(source: &Source) -> Encoded {
     let mut encoded = Encoded::default();
     encoded.bytes.extend(read::MARK);
-    encoded.bytes.extend(read::VERSION.to_le_bytes());
+    match source.version {
+        Some(version) => encoded.word(Field::Version, version),
+        None => encoded.bytes.extend(source.least_version().to_le_bytes()),
+    }
     encoded.tables(source);
     encoded.items(&source.items);
     encoded
@@ -377,9 +397,9 @@ impl Encoded {
     }
 
     fn tables(&mut self, source: &Source) {
-        self.byte(Field::OperatorCount, source.arities.len() as u8);
-        for &arity in &source.arities {
-            self.byte(Field::Arity, arity);
+        self.byte(Field::OperatorCount, source.operators.len() as u8);
+        for &operator in &source.operators {
+            self.byte(Field::Operator, operator);
         }
         self.byte(Field::ArrayCount, source.arrays.len() as u8);
         for array in &source.arrays {

@@ -52,6 +52,48 @@ fn the_mark_is_one_field() {
     assert_eq!(refusal(b"ALP\x02"), Some((3, 3)));
 }
 
+/// The version is a number of two bytes, both of which count.
+#[test]
+fn versions_1_and_2_alone() {
+    for version in [0u16, 3, 4, 0x82, 0x0100, 0x0101, 0x0102, 0x0200, 0x0201, 0x8001, 0xFFFF] {
+        let [low, high] = version.to_le_bytes();
+        assert_eq!(refusal(&l_with(&[(3, low), (4, high)])), Some((5, 3)), "{version:#x}");
+    }
+    assert_eq!(refusal(&l_with(&[(3, 2)])), None);
+}
+
+/// Two operators: the byte of the first, then of the second.
+#[test]
+fn an_operator_is_asked_6_at_its_byte() {
+    let mut program = asm("op f/2 op g/2 array A in [1]");
+    for (version, byte) in (1..=2).flat_map(|version| (0..=255).map(move |byte| (version, byte))) {
+        let allowed = (1..=4).contains(&byte) || (version == 2 && byte == 0x82);
+        program[3] = version;
+        for place in [6, 7] {
+            program[place] = byte;
+            let expected = (!allowed).then_some((6, place));
+            assert_eq!(refusal(&program), expected, "{byte:#x} in version {version}");
+            program[place] = 2;
+        }
+    }
+    // 5 comes first, and a mark is no count.
+    program[3..8].copy_from_slice(&[3, 0, 2, 0x82, 0]);
+    assert_eq!(refusal(&program), Some((5, 3)));
+    program[3..6].copy_from_slice(&[2, 0, 0x82]);
+    assert_eq!(refusal(&program), Some((6, 5)));
+}
+
+#[test]
+fn a_marked_operator_has_two_arguments() {
+    let mut program = asm("op f/2* array A in [2] array B out [1] B[0] = f(A[0], A[1])");
+    assert_eq!(refusal(&program), None);
+    assert_eq!(refusal(&program[..program.len() - 1]), Some((3, program.len() - 1)));
+    // The second read becomes the end: an argument is missing.
+    let second = place_of(&program, &[0x10, 0, 1, 0]);
+    program[second] = 0;
+    assert_eq!(refusal(&program), Some((9, second)));
+}
+
 #[test]
 fn coefficients_are_fields_one_by_one() {
     let text = "array A out [1] for i = 0 to 0 { for j = 0 to 0 { A[5*i + 6*j] = 1 } }";
@@ -342,6 +384,25 @@ fn tables_before_terms() {
     assert_eq!(line_of_texts(&many, &both), "refused both 22 0");
 }
 
+/// The same arity is not enough: 23 compares the marks too.
+#[test]
+fn marks_on_one_side() {
+    let text = |f: &str, g: &str| format!("op f/{f} op g/{g} array A in [2] array B out [1]");
+    let (none, first) = (text("2", "2"), text("2*", "2"));
+    let (second, both) = (text("2", "2*"), text("2*", "2*"));
+    for (left, right, operator) in
+        [(&none, &first, 0), (&first, &second, 0), (&second, &none, 1), (&both, &first, 1)]
+    {
+        let line = format!("refused both 23 {operator}");
+        assert_eq!(line_of_texts(left, right), line);
+        assert_eq!(line_of_texts(right, left), line);
+    }
+    assert_eq!(line_of_texts(&first, &text("2*", "1")), "refused both 23 1");
+    // The version is no part of the tables.
+    assert_eq!(line_of_texts(&none, &format!("version 2 {none}")), "equal 1");
+    assert_eq!(line_of_texts(&format!("version 2 {both}"), &both), "equal 1");
+}
+
 #[test]
 fn masks() {
     let head = "array A in [5] array B out [3] array C inout [4] array D local [2]";
@@ -413,6 +474,51 @@ fn operators_have_no_laws() {
     assert_eq!(line_of_texts(&base, &text("g(A[0], A[1])")), "differs 1 0");
     assert_eq!(line_of_texts(&text("f(f(1, 2), 3)"), &text("f(1, f(2, 3))")), "differs 1 0");
     assert_eq!(line_of_texts(&base, &base), "equal 1");
+}
+
+/// f and h are marked, g is not. Each pair with whether it is alike.
+#[test]
+fn marked_operators_have_one_law() {
+    let head = "op f/2* op g/2 op h/2* array A in [4] array B out [1]";
+    let text = |value: &str| format!("{head} B[0] = {value}");
+    for (left, right, alike) in [
+        ("f(A[0], A[1])", "f(A[1], A[0])", true),
+        ("g(A[0], A[1])", "g(A[1], A[0])", false),
+        ("f(A[0], A[1])", "h(A[0], A[1])", false),
+        ("f(A[0], A[1])", "h(A[1], A[0])", false),
+        ("f(A[0], A[0])", "f(A[0], A[1])", false),
+        ("f(A[0], 1)", "f(1, A[0])", true),
+        ("f(const 0, 0)", "f(0, const 0)", true),
+        // At any depth, below and above operators without a mark.
+        ("f(f(A[0], A[1]), A[2])", "f(A[2], f(A[1], A[0]))", true),
+        ("f(f(A[0], A[1]), f(A[2], A[3]))", "f(f(A[3], A[2]), f(A[0], A[1]))", true),
+        ("g(f(A[0], A[1]), A[2])", "g(f(A[1], A[0]), A[2])", true),
+        ("g(f(A[0], A[1]), A[2])", "g(A[2], f(A[0], A[1]))", false),
+        ("f(g(A[0], A[1]), A[2])", "f(A[2], g(A[0], A[1]))", true),
+        ("f(g(A[0], A[1]), A[2])", "f(A[2], g(A[1], A[0]))", false),
+        ("h(f(A[0], A[1]), A[2])", "h(A[2], f(A[1], A[0]))", true),
+        // Nothing is regrouped.
+        ("f(f(A[0], A[1]), A[2])", "f(A[0], f(A[1], A[2]))", false),
+        ("f(f(A[0], A[1]), A[2])", "f(f(A[0], A[2]), A[1])", false),
+        ("f(f(A[0], A[1]), f(A[2], A[3]))", "f(f(A[0], A[2]), f(A[1], A[3]))", false),
+        ("f(A[0], f(A[0], A[1]))", "f(A[1], f(A[0], A[0]))", false),
+    ] {
+        let expected = if alike { "equal 1" } else { "differs 1 0" };
+        assert_eq!(line_of_texts(&text(left), &text(right)), expected, "{left}, {right}");
+        assert_eq!(line_of_texts(&text(right), &text(left)), expected, "{right}, {left}");
+    }
+}
+
+/// What is swapped are values: the parts went through cells first.
+#[test]
+fn swaps_are_seen_through_cells() {
+    let head = "op f/2* array A inout [3] array B out [1] array T local [2]";
+    let text = |items: &str| format!("{head} {items}");
+    let direct = text("B[0] = f(f(A[0], A[1]), A[2])");
+    let through = text("T[1] = A[2] T[0] = f(A[1], A[0]) A[2] = A[2] B[0] = f(T[1], T[0])");
+    assert_eq!(line_of_texts(&direct, &through), "equal 4");
+    let late = text("T[0] = f(A[1], A[0]) A[2] = A[1] B[0] = f(A[2], T[0]) A[2] = A[1]");
+    assert_eq!(line_of_texts(&direct, &late), "differs 0 2");
 }
 
 #[test]

@@ -84,6 +84,35 @@ fn parts_of_program_l() {
     assert_eq!(call(23, &[], &L[..33]), "23 0 3 33");
 }
 
+/// A marked operator has two arguments, whatever file the tables are of; other numbers that end
+/// alike are arities.
+#[test]
+fn marked_operators() {
+    let mut row = l_row();
+    row[..6].copy_from_slice(&[5, 2, 0x82, 0x182, 0x8000_0082, 0x83]);
+    row[6] = 0x82;
+    let bytes: Vec<_> = row.iter().flat_map(|&number| (number as u64).to_le_bytes()).collect();
+    let leaf = [0x13, 0, 0, 0, 0];
+    let lent = |leaves: usize| [&bytes[..], &[0x11, 1], &leaf.repeat(leaves)].concat();
+    for (number, arity) in [(0, 2usize), (1, 2), (2, 0x182), (3, 0x8000_0082), (4, 0x83), (5, 0)] {
+        assert_eq!(call(12, &[number], &bytes), format!("12 {arity}"));
+    }
+    let mut narrow = row;
+    narrow[3] = 0x82;
+    narrow[4] = 0x82;
+    assert_eq!(call(17, &[], &bytes), format!("17{}", text(&narrow)));
+    assert_eq!(call(18, &[0, 0], &lent(2)), "18 1 3 12");
+    assert_eq!(call(18, &[0, 0], &lent(1)), "18 0 3 7");
+    let program = common::asm("op f/1 op g/2* array A in [2] array B out [2]");
+    let mut row = l_row();
+    row[..3].copy_from_slice(&[2, 1, 0x82]);
+    assert_eq!(call(22, &[], &program), format!("22 1 17{}", text(&row)));
+    let first = [&program[..3], &[1], &program[4..]].concat();
+    assert_eq!(call(22, &[], &first), format!("22 0 6 7{}", text(&[0; 115])));
+    assert_eq!(call(23, &[], &program), "23 1");
+    assert_eq!(call(23, &[], &first), "23 0 6 7");
+}
+
 /// Steps of a script: a code, and seven words.
 fn script(steps: &[(u8, [u32; 7])]) -> Vec<u8> {
     let step = |(code, words): &(u8, [u32; 7])| {

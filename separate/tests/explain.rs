@@ -307,7 +307,7 @@ fn last_write(program: &[u8], array: usize, cell: usize) -> (usize, Option<Write
     let source = Source::of(&read_program(program).unwrap());
     let mut trace = Trace { source: &source, writes: Vec::new() };
     trace.items(&source.items, 0, &mut Vec::new());
-    let header = 5 + 1 + source.arities.len() + 1;
+    let header = 5 + 1 + source.operators.len() + 1;
     let tables = source.arrays.iter().map(|array| 2 + 2 * array.extents.len()).sum::<usize>();
     let (mut at, mut found) = (header + tables, Vec::new());
     ranges(&source.items, 0, &mut at, &mut found);

@@ -80,10 +80,18 @@ fn writes_in() {
 }
 
 #[test]
-fn version_2() {
+fn version_3() {
     for right in any() {
-        assert_eq!(line(&l_with(&[(3, 2)]), &right), "refused left 5 3");
+        assert_eq!(line(&l_with(&[(3, 3)]), &right), "refused left 5 3");
     }
+}
+
+#[test]
+fn version_2_beside_either() {
+    let second = l_with(&[(3, 2)]);
+    assert_eq!(line(&L, &second), "equal 2");
+    assert_eq!(line(&second, &L), "equal 2");
+    assert_eq!(line(&second, &second), "equal 2");
 }
 
 #[test]

@@ -128,6 +128,37 @@ fn terms() {
     assert_eq!(line_of_texts(other, other), "equal 2048");
 }
 
+/// 2,048 literals, and as many sums of two of them: 4,096 terms.
+fn sums(arity: &str, [far, near, last]: [&str; 3]) -> String {
+    format!(
+        "op add/{arity} array A out [1024] array B out [1024]
+        for i = 0 to 1023 {{ A[i] = add({far}) }}
+        for i = 0 to 1022 {{ B[i] = add({near}) }}
+        B[1023] = add({last})"
+    )
+}
+
+#[test]
+fn alike_terms_count_once() {
+    let marked = |sums_of: [&str; 3]| sums("2*", sums_of);
+    let unmarked = |sums_of: [&str; 3]| sums("2", sums_of);
+    let [base, swapped] =
+        [["i, i + 1024", "i, i + 1", "0, 2"], ["i + 1024, i", "i + 1, i", "2, 0"]];
+    // Both orders of each sum make 6,144 terms in 4,096 classes.
+    assert_eq!(line_of_texts(&marked(base), &marked(swapped)), "equal 2048");
+    let one_swapped = [base[0], base[1], swapped[2]];
+    assert_eq!(line_of_texts(&marked(base), &marked(one_swapped)), "equal 2048");
+    // One class more, in either order.
+    for last in ["0, 3", "3, 0"] {
+        let more = marked([swapped[0], swapped[1], last]);
+        assert_eq!(line_of_texts(&marked(base), &more), "refused both 24 0");
+        assert_eq!(line_of_texts(&more, &marked(base)), "refused both 24 0");
+    }
+    // Without the mark each order is a term of its own.
+    assert_eq!(line_of_texts(&unmarked(base), &unmarked(base)), "equal 2048");
+    assert_eq!(line_of_texts(&unmarked(base), &unmarked(one_swapped)), "refused both 24 0");
+}
+
 #[test]
 fn program_bytes() {
     // Guards of four bytes each between the tables and the closing 00.

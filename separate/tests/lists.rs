@@ -69,6 +69,11 @@ fn header_words() {
     for (at, word) in [(0, 17), (1, 0), (1, 5), (2, u32::MAX), (17, 0), (17, 17)] {
         assert!(!accepted_with(at, word), "{word} at {at}");
     }
+    // f has two arguments, so it may be marked, and g may not; a mark is the whole word.
+    assert!(accepted_with(1, 130) && !accepted_with(2, 130) && !accepted_with(0, 130));
+    for word in [128, 129, 131, 132, 0x42, 0x182, 0x8200, 0x1_0002, 0x8000_0082, 0x8200_0000] {
+        assert!(!accepted_with(1, word), "{word:#x}");
+    }
     for (at, word) in [(18, 4), (19, 0), (19, 4), (20, 0), (20, 1_025), (20, u32::MAX)] {
         assert!(!accepted_with(at, word), "{word} at {at}");
     }
@@ -250,8 +255,9 @@ mod slow {
         if operators > 16 || !(1..=16).contains(&arrays) {
             return None;
         }
-        let arities = words[1..1 + operators].to_vec();
-        let mut ok = arities.iter().all(|arity| (1..=4).contains(arity));
+        let arity = |&word: &u32| if word == 130 { 2 } else { word };
+        let arities = words[1..1 + operators].iter().map(arity).collect();
+        let mut ok = words[1..1 + operators].iter().all(|word| [1, 2, 3, 4, 130].contains(word));
         ok &= words[1 + operators..17].iter().all(|&word| word == 0);
         ok &= words[18 + 5 * arrays..98].iter().all(|&word| word == 0);
         let mut found: Vec<(u32, usize)> = Vec::new();
@@ -327,7 +333,8 @@ fn random_lists_are_accepted_as_the_slow_way_says() {
 fn every_single_word_of_a_list_as_the_slow_way_says() {
     let base = list_of(BASE);
     for at in 0..140 {
-        for word in (0..24).chain([1_024, 1_025, u32::MAX, base[at].wrapping_sub(1)]) {
+        let others = [128, 129, 130, 131, 0x182, 0x8000_0082, 1_024, 1_025, u32::MAX];
+        for word in (0..24).chain(others).chain([base[at].wrapping_sub(1)]) {
             let mut words = base.clone();
             words[at] = word;
             assert_eq!(accepted(&words), slow::accepted(&words), "{word} at {at}");
@@ -357,6 +364,22 @@ fn lists_are_compared_as_their_programs_are() {
         let lists = line_of_lists(&list_of(&left), &list_of(&right), 0xFFFF);
         assert_eq!(lists, common::line_of_texts(&left, &right), "{right}");
     }
+}
+
+#[test]
+fn marks_of_lists() {
+    let head = "op f/2* op g/2 array A in [2] array B out [1]";
+    let update = |operator, one, other| [1, 1, 0, 17, operator, 0, 16, 0, one, 16, 0, other];
+    let list = |operator, one, other| list_with_updates(head, &[&update(operator, one, other)]);
+    assert_eq!(list(0, 0, 1)[..3], [2, 130, 2]);
+    assert_eq!(line_of_lists(&list(0, 0, 1), &list(0, 1, 0), 2), "equal 1");
+    assert_eq!(line_of_lists(&list(1, 0, 1), &list(1, 1, 0), 2), "differs 1 0");
+    assert_eq!(line_of_lists(&list(0, 0, 1), &list(0, 1, 1), 2), "differs 1 0");
+    let mut unmarked = list(0, 0, 1);
+    unmarked[1] = 2;
+    assert_eq!(line_of_lists(&list(0, 0, 1), &unmarked, 0), "refused both 23 0");
+    assert_eq!(line_of_lists(&unmarked, &list(0, 0, 1), 0), "refused both 23 0");
+    assert_eq!(line_of_lists(&unmarked, &unmarked, 2), "equal 1");
 }
 
 #[test]

@@ -2,7 +2,9 @@
 
 mod common;
 use common::{asm, L};
-use separate::notation::{assemble, disassemble, disassemble_with_places, parse, places, print};
+use separate::notation::{
+    assemble, disassemble, disassemble_with_places, parse, places, print, Position,
+};
 use separate::random::Pairs;
 use separate::read::read_program;
 use separate::tree::{encode, Source};
@@ -40,6 +42,45 @@ for i = -32768 to 32767 step -32768 {
 }
 ";
     assert_eq!(disassemble(&asm(text)).as_deref(), Ok(text));
+}
+
+/// Each head with the version and the operators it stands for.
+#[test]
+fn marks_and_versions() {
+    for (head, version, operators) in [
+        ("op f0/2\n", 1, &[2][..]),
+        ("op f0/2*\n", 2, &[0x82]),
+        ("op f0/1\nop f1/2*\nop f2/2\n", 2, &[1, 0x82, 2]),
+        ("version 2\n", 2, &[]),
+        ("version 2\nop f0/2\n", 2, &[2]),
+    ] {
+        let text = format!("{head}array A in [1]\n");
+        let bytes = asm(&text);
+        assert_eq!(bytes[3..6], [version, 0, operators.len() as u8], "{head}");
+        assert_eq!(bytes[6..6 + operators.len()], *operators, "{head}");
+        assert_eq!(disassemble(&bytes).as_deref(), Ok(text.as_str()));
+    }
+    // Said though it is so anyway.
+    let rest = "op f/2* array A in [1]";
+    assert_eq!(asm(&format!("version 2 {rest}")), asm(rest));
+    assert_eq!(asm("version 1 array A in [1]"), asm("array A in [1]"));
+    assert_eq!(asm("op f / 2 * array A in [1]"), asm(rest));
+}
+
+/// The word has its meaning only before everything else, with a number behind it.
+#[test]
+fn version_is_no_reserved_word() {
+    let text = |name: &str| {
+        format!(
+            "op {name}0/1 array {name} out [3]
+            for {name}1 = 0 to 2 {{ {name}[{name}1] = {name}0({name}1) }}"
+        )
+    };
+    assert_eq!(asm(&text("version")), asm(&text("A")));
+    assert_eq!(asm(&format!("# 1\n\nversion 0x2 {}", text("version")))[3..5], [2, 0]);
+    assert_eq!(error("version[0] = 1"), (1, 1, "array 'version' is not declared".to_string()));
+    let late = "array A in [1] version 2";
+    assert_eq!(error(late), (1, 16, "array 'version' is not declared".to_string()));
 }
 
 #[test]
@@ -136,6 +177,27 @@ fn errors_of_declarations() {
             (3, 6, "op g/256", "the arity 256 is outside 0 to 255 (1 to 4 are allowed)"),
             (3, 6, "op g/-1", "the arity -1 is outside 0 to 255 (1 to 4 are allowed)"),
             (3, 6, "op g/x", "expected a number, the arity, found 'x'"),
+            (
+                3,
+                7,
+                "op g/3*",
+                "'*' behind the arity 3: two arguments may swap, op g/2*, and no others",
+            ),
+            (
+                3,
+                8,
+                "op g/0 *",
+                "'*' behind the arity 0: two arguments may swap, op g/2*, and no others",
+            ),
+            (3, 5, "op g*/2", "expected '/', found '*'"),
+            (3, 8, "op g/2**", "expected a statement, 'for' or 'if', found '*'"),
+            (
+                3,
+                6,
+                "op g/0x82",
+                "the arity 130 has no byte: 82 hex is that of an operator whose two arguments may \
+                 swap, op g/2*",
+            ),
             (3, 5, "op g(2)", "expected '/', found '('"),
             (3, 4, "op step/1", "'step' is reserved: it names nothing"),
             (3, 4, "op f/1", "'f' already names an operator"),
@@ -162,6 +224,19 @@ fn errors_of_declarations() {
             (3, 6, "op g/0x", "'0x' is neither a number (12, 0x1F) nor a name"),
             (4, 1, "op g/1\n}", "this '}' closes nothing"),
             (4, 1, "op g/1\n12 = 3", "expected a statement, 'for' or 'if', found 12"),
+        ],
+    );
+    check_errors(
+        "",
+        &[
+            (
+                1,
+                9,
+                "version 65536",
+                "the version 65536 is outside 0 to 65535 (1 and 2 are allowed)",
+            ),
+            (2, 1, "version\n-1", "the version -1 is outside 0 to 65535 (1 and 2 are allowed)"),
+            (1, 11, "version - x", "expected a number, the version, found 'x'"),
         ],
     );
     let many: String = (0..256).map(|number| format!("op f{number}/1\n")).collect();
@@ -310,6 +385,7 @@ fn check_places(text: &str, bytes: &[u8]) {
             "end" => byte == 0 && (rest == "}" || rest.is_empty()),
             "step" => line[..row.at.column - 1].ends_with("step "),
             "operator" | "array" if name == "count" => true,
+            "version" => byte == 2 && rest == "2",
             "role" | "arity" | "target" | "array" => rest.starts_with(name),
             "operator" if name.is_empty() => byte == 0x11 && rest.starts_with('f'),
             "operator" => rest.starts_with(name),
@@ -358,6 +434,9 @@ for i = 0 to 1 step 1 {  # at 15
 # end at 33
 ";
     assert_eq!(disassemble_with_places(&L).as_deref(), Ok(expected));
+    let second = common::l_with(&[(3, 2)]);
+    let expected = format!("version 2  # at 3\n{expected}");
+    assert_eq!(disassemble_with_places(&second), Ok(expected));
     let text = "array A in [2]\n\narray B out [2]\nfor i = 0 to 1 {\n  B[i] =\n    A[i]\n}\n";
     let rows: Vec<_> = places(text).unwrap();
     let row = |place: usize| {
@@ -378,6 +457,12 @@ fn places_of_counts() {
     let many: String = (0..17).map(|number| format!("op f{number}/1\n")).collect();
     let rows = places(&(many + "array A out [1]\n")).unwrap();
     assert_eq!((rows[0].place, rows[0].at.line, rows[0].what.as_str()), (5, 17, "operator count"));
+    let rows = places("# first\nversion 9\nop f/1\nop g/2*\narray A out [1]\n").unwrap();
+    let row = |number: usize| (rows[number].place, rows[number].at, rows[number].what.as_str());
+    let at = |line, column| Position { line, column };
+    assert_eq!(row(0), (3, at(2, 9), "version"));
+    assert_eq!(row(1), (5, at(4, 1), "operator count"));
+    assert_eq!(row(3), (7, at(4, 4), "arity g"));
     let rows = places("op f/1\n\nfor i = 0 to 1 { }").unwrap();
     assert_eq!((rows[2].place, rows[2].at.line, rows[2].what.as_str()), (7, 3, "array count"));
 }
@@ -390,6 +475,9 @@ fn programs_that_are_refused_can_be_written() {
     );
     assert_eq!(common::refusal_of_text("array A in [1] A[0] = 1"), Some((13, 12)));
     assert_eq!(common::refusal_of_text(""), Some((7, 6)));
+    assert_eq!(common::refusal_of_text("version 1 op f/2 op g/2* array A in [1]"), Some((6, 7)));
+    assert_eq!(common::refusal_of_text("version 3 array A in [1]"), Some((5, 3)));
+    assert_eq!(common::refusal_of_text("version 0 op f/5 array A in [1]"), Some((5, 3)));
 }
 
 #[test]

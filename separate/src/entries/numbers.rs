@@ -1,4 +1,4 @@
-//! Tables as a row of any 115 numbers: the number of operators, 16 arities;
+//! Tables as a row of any 115 numbers: the number of operators, 16 of them;
 //! the number of arrays, 16 roles, 16 numbers of dimensions, 48 extents; 17
 //! bases.
 
@@ -8,8 +8,8 @@ use crate::tables;
 pub const ROW: usize = 115;
 pub type Row = [usize; ROW];
 
-const ARITIES: usize = 1;
-const ARRAY_COUNT: usize = ARITIES + OPERATORS;
+const OPERATOR_BYTES: usize = 1;
+const ARRAY_COUNT: usize = OPERATOR_BYTES + OPERATORS;
 const ROLES: usize = ARRAY_COUNT + 1;
 const DIMENSION_COUNTS: usize = ROLES + ARRAYS;
 const EXTENTS: usize = DIMENSION_COUNTS + ARRAYS;
@@ -22,6 +22,15 @@ pub struct Array {
     pub extents: Vec<usize>,
 }
 
+/// Of any number, also of one that is no operator's.
+fn arity(operator: usize) -> usize {
+    if operator == usize::from(tables::MARKED) {
+        2
+    } else {
+        operator
+    }
+}
+
 /// The tables that a row stands for, whatever its numbers are.
 pub struct Tables {
     pub arities: Vec<usize>,
@@ -32,7 +41,8 @@ pub struct Tables {
 impl Tables {
     /// Counts are cut at their limits, extents at 16 bits.
     pub fn of(row: &Row) -> Tables {
-        let arities = row[ARITIES..][..row[0].min(OPERATORS)].to_vec();
+        let operators = &row[OPERATOR_BYTES..][..row[0].min(OPERATORS)];
+        let arities = operators.iter().map(|&operator| arity(operator)).collect();
         let array = |number: usize| {
             let dimensions = row[DIMENSION_COUNTS + number].min(DIMENSIONS);
             let extents = &row[EXTENTS + DIMENSIONS * number..][..dimensions];
@@ -63,8 +73,8 @@ pub fn narrowed(row: &Row) -> Row {
 pub fn flat(tables: &tables::Tables) -> Row {
     let mut row = [0; ROW];
     row[0] = tables.operators().len();
-    for (number, &arity) in tables.operators().iter().enumerate() {
-        row[ARITIES + number] = usize::from(arity);
+    for (number, &operator) in tables.operators().iter().enumerate() {
+        row[OPERATOR_BYTES + number] = usize::from(operator);
     }
     row[ARRAY_COUNT] = tables.arrays().len();
     for (number, array) in tables.arrays().iter().enumerate() {

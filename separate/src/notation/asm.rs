@@ -5,7 +5,7 @@ use std::ops::RangeInclusive;
 use super::token::{tokens, Error, Position, Token};
 use super::{RESERVED, ROLES};
 use crate::limits::{ARITY, ARRAYS, EXTENT, OPERATORS};
-use crate::tables::Role;
+use crate::tables::{self, Role};
 use crate::tree::{encode, Declaration, Expression, Form, Guard, Item, Loop, Source, Statement};
 
 /// So deep may a text nest, far beyond what is read, so that the stack is enough.
@@ -43,12 +43,13 @@ type Mark = (String, Position);
 
 fn marked(text: &str) -> Result<(Source, Vec<Mark>), Error> {
     let mut parser = Parser { tokens: tokens(text)?, ..Parser::default() };
+    let mut marks = Vec::from_iter(parser.version()?);
     parser.declarations()?;
     let items = parser.items()?;
     parser.expect_end()?;
     parser.mark("end");
     parser.source.items = items;
-    let mut marks = std::mem::take(&mut parser.operator_marks);
+    marks.append(&mut parser.operator_marks);
     marks.append(&mut parser.array_marks);
     marks.append(&mut parser.item_marks);
     Ok((parser.source, marks))
@@ -218,12 +219,26 @@ impl Parser {
         Ok(number)
     }
 
+    /// The version, where the text begins with it. The word is not reserved: what else begins with it
+    /// here is no version.
+    fn version(&mut self) -> Result<Option<Mark>, Error> {
+        let number = self.tokens.get(1).map(|(token, _)| token);
+        let given = matches!(number, Some(Token::Number(_) | Token::Sign("-")));
+        if !given || !self.take_word("version") {
+            return Ok(None);
+        }
+        let at = self.position();
+        let version = self.number_in("version", 0..=65535, " (1 and 2 are allowed)")?;
+        self.source.version = Some(version as u16);
+        Ok(Some(("version".to_string(), at)))
+    }
+
     fn declarations(&mut self) -> Result<(), Error> {
         loop {
             let at = self.position();
             if self.take_word("op") {
                 self.operator_declaration()?;
-                Self::count(&mut self.operator_marks, "operator", self.source.arities.len(), at)?;
+                Self::count(&mut self.operator_marks, "operator", self.source.operators.len(), at)?;
             } else if self.take_word("array") {
                 self.array_declaration()?;
                 Self::count(&mut self.array_marks, "array", self.source.arrays.len(), at)?;
@@ -266,12 +281,35 @@ impl Parser {
         let at = self.position();
         let name = self.new_name()?;
         self.sign("/")?;
-        let allowed = format!(" (1 to {ARITY} are allowed)");
-        let arity = self.number_in("arity", 0..=255, &allowed)?;
+        let operator = self.operator_byte(&name)?;
         Self::declare(&mut self.operator_marks, format!("arity {name}"), at);
         self.names.operators.push(name);
-        self.source.arities.push(arity as u8);
+        self.source.operators.push(operator);
         Ok(())
+    }
+
+    /// The arity, or the byte of a mark where a star follows.
+    fn operator_byte(&mut self, name: &str) -> Result<u8, Error> {
+        let at = self.position();
+        let allowed = format!(" (1 to {ARITY} are allowed)");
+        let arity = self.number_in("arity", 0..=255, &allowed)? as u8;
+        if arity == tables::MARKED {
+            let message = format!(
+                "the arity {arity} has no byte: {arity:x} hex is that of an operator whose two \
+                 arguments may swap, op {name}/2*"
+            );
+            return Self::error_at(at, message);
+        }
+        if !self.is_sign("*") {
+            return Ok(arity);
+        }
+        if arity != 2 {
+            return self.error(format!(
+                "'*' behind the arity {arity}: two arguments may swap, op {name}/2*, and no others"
+            ));
+        }
+        self.at += 1;
+        Ok(tables::MARKED)
     }
 
     fn array_declaration(&mut self) -> Result<(), Error> {
@@ -474,7 +512,8 @@ impl Parser {
         if !self.take_sign(")") {
             return self.expected("',' or ')'");
         }
-        let (count, own) = (arguments.len(), usize::from(self.source.arities[number]));
+        let own = usize::from(tables::arity(self.source.operators[number]));
+        let count = arguments.len();
         if count != own {
             let count = counted(count, "argument");
             return Self::error_at(at, format!("{count} for '{name}', whose arity is {own}"));

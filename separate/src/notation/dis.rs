@@ -3,6 +3,7 @@
 use super::ROLES;
 use crate::read::read_program;
 use crate::reply::Refusal;
+use crate::tables;
 use crate::tree::{encode, Expression, Field, Form, Item, Source};
 
 /// The text of a program that can be read.
@@ -10,13 +11,14 @@ pub fn disassemble(bytes: &[u8]) -> Result<String, Refusal> {
     read_program(bytes).map(|program| print(&Source::of(&program)))
 }
 
-/// The same with a comment on each line: the place of the role, arity or code byte that it stands for.
+/// The same with a comment on each line: the place of the version, operator, role or code that it
+/// stands for.
 pub fn disassemble_with_places(bytes: &[u8]) -> Result<String, Refusal> {
     let source = Source::of(&read_program(bytes)?);
     let mut text = String::new();
     let mut lines = print(&source).lines().map(str::to_string).collect::<Vec<_>>().into_iter();
     for (field, place) in encode(&source).fields {
-        if matches!(field, Field::Arity | Field::Role | Field::ItemCode) {
+        if matches!(field, Field::Version | Field::Operator | Field::Role | Field::ItemCode) {
             // No line is left for the last code, the end of the program.
             let line = lines.next().map_or("# end".to_string(), |line| line + "  #");
             text += &format!("{line} at {place}\n");
@@ -26,9 +28,11 @@ pub fn disassemble_with_places(bytes: &[u8]) -> Result<String, Refusal> {
 }
 
 pub fn print(source: &Source) -> String {
-    let mut text = String::new();
-    for (number, arity) in source.arities.iter().enumerate() {
-        text += &format!("op {}/{arity}\n", operator_name(number));
+    let version = source.version.map(|version| format!("version {version}\n"));
+    let mut text = version.unwrap_or_default();
+    for (number, &operator) in source.operators.iter().enumerate() {
+        let star = if operator == tables::MARKED { "*" } else { "" };
+        text += &format!("op {}/{}{star}\n", operator_name(number), tables::arity(operator));
     }
     for (number, array) in source.arrays.iter().enumerate() {
         let role = ROLES[usize::from(array.role.number())];

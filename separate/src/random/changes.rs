@@ -1,6 +1,7 @@
 //! Single changes, most of which change what a program computes.
 
 use super::Random;
+use crate::tables::arity;
 use crate::tree::{
     each_form, each_loop, each_node, each_statement, Expression, Form, Item, Source, Use,
 };
@@ -49,7 +50,7 @@ fn at_node(
 
 /// Another operator of the same arity.
 fn change_operator(source: &mut Source, random: &mut Random) -> bool {
-    let arities = source.arities.clone();
+    let arities: Vec<_> = source.operators.iter().map(|&operator| arity(operator)).collect();
     let others = |number: usize| -> Vec<usize> {
         let alike = |&other: &usize| other != number && arities[other] == arities[number];
         (0..arities.len()).filter(alike).collect()

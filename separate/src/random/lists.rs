@@ -7,7 +7,7 @@ use crate::limits::{CELLS, LIST_WORDS, NODES, OPERATOR_NESTING, UPDATES};
 use crate::list::{code, decode, write_header, List, Record, HEADER};
 use crate::reply::Reply;
 use crate::stream::{ListPair, Stored};
-use crate::tables::{Array, Role, Tables};
+use crate::tables::{arity, Array, Role, Tables};
 use crate::tree::{encode, Declaration};
 use crate::work::Work;
 
@@ -187,8 +187,8 @@ impl ListPairs {
     }
 
     fn made_up(&mut self) -> Parts {
-        let (arities, arrays) = tables(&mut self.random);
-        let mut maker = ListMaker::new(&mut self.random, &arities, &arrays);
+        let (operators, arrays) = tables(&mut self.random);
+        let mut maker = ListMaker::new(&mut self.random, &operators, &arrays);
         let many = if maker.random.chance(2) { UPDATES } else { 16 };
         for _ in 0..maker.random.below(many) {
             maker.update();
@@ -287,7 +287,7 @@ impl ListPairs {
         let writable = |&array: &usize| parts.tables.arrays()[array].role != Role::In;
         let target = (0..parts.tables.arrays().len()).find(writable).expect("always one") as u32;
         let update = vec![[code::UPDATE, target, 0], [code::LITERAL, 7, 0]];
-        let Some(&arity) = parts.tables.operators().first() else {
+        let Some(arity) = parts.tables.operators().first().map(|&operator| arity(operator)) else {
             parts.updates.resize(UPDATES + over, update);
             return parts;
         };
@@ -343,10 +343,10 @@ fn deep(arity: u8, levels: usize, records: &mut Vec<Record>) {
     records.extend(vec![[code::CONSTANT, 3, 0]; leaves]);
 }
 
-fn tables_of(arities: &[u8], arrays: &[Declaration]) -> Tables {
+fn tables_of(operators: &[u8], arrays: &[Declaration]) -> Tables {
     let mut tables = Tables::default();
-    for &arity in arities {
-        tables.add_operator(arity);
+    for &operator in operators {
+        tables.add_operator(operator);
     }
     for array in arrays {
         let mut extents = [0; 3];
@@ -366,8 +366,8 @@ struct ListMaker<'a> {
 }
 
 impl<'a> ListMaker<'a> {
-    fn new(random: &'a mut Random, arities: &[u8], arrays: &[Declaration]) -> ListMaker<'a> {
-        let tables = tables_of(arities, arrays);
+    fn new(random: &'a mut Random, operators: &[u8], arrays: &[Declaration]) -> ListMaker<'a> {
+        let tables = tables_of(operators, arrays);
         let written = vec![false; CELLS];
         ListMaker { random, tables, updates: Vec::new(), nodes: 0, written }
     }
@@ -397,7 +397,7 @@ impl<'a> ListMaker<'a> {
         }
         let number = self.random.below(operators);
         records.push([code::OPERATOR, number as u32, 0]);
-        for _ in 0..self.tables.operators()[number] {
+        for _ in 0..arity(self.tables.operators()[number]) {
             let below = self.random.below(levels);
             self.expression(below, records);
         }

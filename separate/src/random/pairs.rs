@@ -333,19 +333,19 @@ fn one_dimension_more(source: &mut Source, array: usize) {
 }
 
 fn unlike_operators(source: &mut Source, random: &mut Random) {
-    let count = source.arities.len();
+    let count = source.operators.len();
     match random.below(3) {
-        0 => source.arities.push(1 + random.below(4) as u8),
+        0 => source.operators.push(1 + random.below(4) as u8),
         1 => {
             // One operator more, before some others.
             let at = random.below(count + 1);
-            source.arities.insert(at, 1 + random.below(4) as u8);
+            source.operators.insert(at, 1 + random.below(4) as u8);
             renumber_operators(source, &|number| number + usize::from(number >= at));
         }
         _ => {
             if count > 0 {
                 let (one, other) = (random.below(count), random.below(count));
-                source.arities.swap(one, other);
+                source.operators.swap(one, other);
                 renumber_operators(source, &|number| match number {
                     number if number == one => other,
                     number if number == other => one,

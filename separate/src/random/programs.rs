@@ -2,7 +2,7 @@
 
 use super::{Random, ATTEMPTS};
 use crate::limits::OPERATOR_NESTING;
-use crate::tables::Role;
+use crate::tables::{arity, Role};
 use crate::tree::{encode, Declaration, Expression, Form, Guard, Item, Loop, Source, Statement};
 use crate::work::Work;
 
@@ -19,12 +19,12 @@ pub fn program(random: &mut Random, work: &mut Work) -> Source {
 }
 
 fn attempt(random: &mut Random) -> Source {
-    let (arities, arrays) = tables(random);
+    let (operators, arrays) = tables(random);
     let filled = vec![false; arrays.len()];
     let nesting = if random.chance(10) { 8 } else { 4 };
-    let mut maker = Maker { random, arities, arrays, filled, fresh: Vec::new(), nesting };
+    let mut maker = Maker { random, operators, arrays, filled, fresh: Vec::new(), nesting };
     let items = maker.program();
-    Source { arities: maker.arities, arrays: maker.arrays, items }
+    Source { version: None, operators: maker.operators, arrays: maker.arrays, items }
 }
 
 /// Operators and arrays; at least one array can be written.
@@ -82,7 +82,7 @@ impl Scope {
 
 struct Maker<'a> {
     random: &'a mut Random,
-    arities: Vec<u8>,
+    operators: Vec<u8>,
     arrays: Vec<Declaration>,
     /// Arrays all of whose cells are written.
     filled: Vec<bool>,
@@ -215,7 +215,7 @@ impl Maker<'_> {
     }
 
     fn value(&mut self, scope: &Scope) -> Expression {
-        if self.random.chance(4) && !self.arities.is_empty() {
+        if self.random.chance(4) && !self.operators.is_empty() {
             let levels = 4 + self.random.below(OPERATOR_NESTING - 3);
             return self.chain(scope, levels);
         }
@@ -228,8 +228,8 @@ impl Maker<'_> {
         if levels == 0 {
             return self.leaf(scope);
         }
-        let number = self.random.below(self.arities.len());
-        let arity = usize::from(self.arities[number]);
+        let number = self.random.below(self.operators.len());
+        let arity = usize::from(arity(self.operators[number]));
         let deep = self.random.below(arity);
         let argument = |position| {
             if position == deep {
@@ -242,11 +242,11 @@ impl Maker<'_> {
     }
 
     fn expression(&mut self, scope: &Scope, levels: usize) -> Expression {
-        if levels == 0 || self.arities.is_empty() || self.random.chance(10) {
+        if levels == 0 || self.operators.is_empty() || self.random.chance(10) {
             return self.leaf(scope);
         }
-        let number = self.random.below(self.arities.len());
-        let arguments = (0..self.arities[number]).map(|_| {
+        let number = self.random.below(self.operators.len());
+        let arguments = (0..arity(self.operators[number])).map(|_| {
             let below = self.random.below(levels);
             self.expression(scope, below)
         });

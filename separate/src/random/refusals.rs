@@ -4,7 +4,7 @@ use super::changes::change_form;
 use super::programs::program;
 use super::{Random, ATTEMPTS};
 use crate::limits::{CELLS, ITEM_NESTING, OPERATOR_NESTING, PROGRAM_BYTES};
-use crate::tables::Role;
+use crate::tables::{arity, Role};
 use crate::tree::{
     each_node, each_statement, encode, nesting, Declaration, Encoded, Expression, Field, Form,
     Guard, Item, Loop, Source, Statement, Use,
@@ -30,7 +30,7 @@ fn attempt(number: u8, source: Source, random: &mut Random) -> Option<Vec<u8>> {
         3 => Some(cut(&source, random)),
         4 => Some(other_bytes(&source, random, 0, 3)),
         5 => Some(other_bytes(&source, random, 3, 2)),
-        6 => out_of_range(&source, random, &[(Field::OperatorCount, 16), (Field::Arity, 4)]),
+        6 => out_of_range(&source, random, &[(Field::OperatorCount, 16), (Field::Operator, 4)]),
         7 => array_table(source, random),
         8 => Some(too_many_cells(source, random)),
         9 => wrong_code(&source, random),
@@ -145,7 +145,7 @@ fn undeclared(source: &Source, random: &mut Random) -> Option<Vec<u8>> {
     let wanted = [Field::Target, Field::ReadArray, Field::OperatorNumber];
     let (field, place) = place(&encoded, random, &wanted)?;
     let declared = match field {
-        Field::OperatorNumber => source.arities.len(),
+        Field::OperatorNumber => source.operators.len(),
         _ => source.arrays.len(),
     };
     let more = if random.chance(50) { 0 } else { random.below(256 - declared) };
@@ -168,7 +168,7 @@ fn too_deep(mut source: Source, random: &mut Random) -> Option<Vec<u8>> {
         }
         return Some(bytes_of(&source));
     }
-    let arity = usize::from(*source.arities.first()?);
+    let arity = usize::from(arity(*source.operators.first()?));
     let mut deep = Expression::Constant(5);
     for _ in 0..OPERATOR_NESTING + 1 + random.below(3) {
         let mut arguments = vec![Expression::Constant(6); arity];
@@ -342,8 +342,8 @@ fn too_many_updates(mut source: Source, random: &mut Random) -> Vec<u8> {
 /// Large right sides in a loop; needs an operator.
 fn too_many_nodes(mut source: Source, random: &mut Random) -> Option<Vec<u8>> {
     let (target, subscripts) = target(&source, random, 1);
-    let number = random.below(source.arities.len().max(1));
-    let arity = *source.arities.get(number)?;
+    let number = random.below(source.operators.len().max(1));
+    let arity = arity(*source.operators.get(number)?);
     let mut value = Expression::Constant(random.draw() as u32);
     let mut nodes = 1;
     let mut levels = 0;
