@@ -1,25 +1,95 @@
 //! Replies against values: another way to compare two lists, without a store
-//! of terms. Each term gets a value of 128 bits made from its parts, as if by
-//! a meaning that keeps different terms apart.
+//! of terms. Values are made from those of the parts by meanings in which each
+//! marked operator gives the same for both orders of its arguments. One
+//! meaning keeps terms apart unless they are alike up to swaps.
 
 use std::collections::{HashMap, HashSet};
 
 use separate::limits::LIST_WORDS;
 use separate::list::{code, decode, List, Record};
 use separate::random::{ListPairs, Pairs};
-use separate::tables::Role;
+use separate::tables::{arity, Role, MARKED};
 use separate::{unroll, Reply, Side, Work};
 
 type Value = u128;
 
-fn scramble(parts: &[Value]) -> Value {
-    let mut value: Value = 0x1234_5678_9ABC_DEF0_0FED_CBA9_8765_4321;
-    for part in parts {
-        value ^= part.wrapping_add(value << 7);
-        value = value.wrapping_mul(0xDEAD_BEEF_0000_0001_9E37_79B9_7F4A_7C15);
-        value ^= value >> 61;
+/// A content and a meaning, random ones for another seed, over so many values.
+struct Meaning {
+    seed: Value,
+    values: Value,
+}
+
+/// So many values that no two terms meet by chance.
+const APART: Meaning = Meaning { seed: 0, values: Value::MAX };
+
+impl Meaning {
+    fn scramble(&self, parts: &[Value]) -> Value {
+        let mut value: Value = 0x1234_5678_9ABC_DEF0_0FED_CBA9_8765_4321 ^ self.seed;
+        for part in parts {
+            value ^= part.wrapping_add(value << 7);
+            value = value.wrapping_mul(0xDEAD_BEEF_0000_0001_9E37_79B9_7F4A_7C15);
+            value ^= value >> 61;
+        }
+        value % self.values
     }
-    value
+
+    fn start(&self, array: u32, cell: u32) -> Value {
+        self.scramble(&[1, array.into(), cell.into()])
+    }
+
+    /// The same for both orders where the operator is marked.
+    fn operator(&self, number: u32, operator: u8, mut arguments: Vec<Value>) -> Value {
+        if operator == MARKED {
+            arguments.sort();
+        }
+        self.scramble(&[vec![2, number.into()], arguments].concat())
+    }
+
+    fn outcome(&self, list: &List) -> Outcome {
+        let mut outcome = Outcome { cells: HashMap::new(), met: HashSet::new() };
+        for (&[_, array, cell], expression) in list.updates() {
+            let mut records = expression.iter();
+            let value = self.value(&mut records, list, &mut outcome);
+            assert!(records.next().is_none());
+            outcome.cells.insert((array, cell), value);
+        }
+        outcome
+    }
+
+    fn value(
+        &self,
+        records: &mut std::slice::Iter<Record>,
+        list: &List,
+        outcome: &mut Outcome,
+    ) -> Value {
+        let &[kind, first, second] = records.next().unwrap();
+        let value = match kind {
+            code::READ => match outcome.cells.get(&(first, second)) {
+                Some(&value) => value,
+                None => self.start(first, second),
+            },
+            code::OPERATOR => {
+                let operator = list.tables.operators()[first as usize];
+                let argument = |_| self.value(records, list, outcome);
+                let arguments = (0..arity(operator)).map(argument).collect();
+                self.operator(first, operator, arguments)
+            }
+            _ => self.scramble(&[kind.into(), first.into()]),
+        };
+        outcome.met.insert(value);
+        value
+    }
+
+    /// The first element in which the lists leave different values.
+    fn difference(&self, left: &List, right: &List, mask: u16) -> Option<(usize, usize)> {
+        let (one, other) = (self.outcome(left), self.outcome(right));
+        elements(left, mask).find(|&(array, cell)| {
+            let element = (array as u32, cell as u32);
+            let start = self.start(element.0, element.1);
+            let held = |side: &Outcome| side.cells.get(&element).copied().unwrap_or(start);
+            held(&one) != held(&other)
+        })
+    }
 }
 
 /// The contents of written cells after all updates, and every value met.
@@ -28,63 +98,35 @@ struct Outcome {
     met: HashSet<Value>,
 }
 
-fn start(array: u32, cell: u32) -> Value {
-    scramble(&[1, array.into(), cell.into()])
-}
-
-fn outcome(list: &List) -> Outcome {
-    let mut outcome = Outcome { cells: HashMap::new(), met: HashSet::new() };
-    for (&[_, array, cell], expression) in list.updates() {
-        let mut records = expression.iter();
-        let value = value(&mut records, list, &mut outcome);
-        assert!(records.next().is_none());
-        outcome.cells.insert((array, cell), value);
-    }
-    outcome
-}
-
-fn value(records: &mut std::slice::Iter<Record>, list: &List, outcome: &mut Outcome) -> Value {
-    let &[kind, first, second] = records.next().unwrap();
-    let value = match kind {
-        code::READ => match outcome.cells.get(&(first, second)) {
-            Some(&value) => value,
-            None => start(first, second),
-        },
-        code::OPERATOR => {
-            let arity = list.tables.operators()[first as usize];
-            let mut parts = vec![2, first.into()];
-            (0..arity).for_each(|_| parts.push(self::value(records, list, outcome)));
-            scramble(&parts)
-        }
-        _ => scramble(&[kind.into(), first.into()]),
-    };
-    outcome.met.insert(value);
-    value
+/// Those that are compared, in their order.
+fn elements<'a>(list: &'a List, mask: u16) -> impl Iterator<Item = (usize, usize)> + 'a {
+    let arrays = list.tables.arrays().iter().enumerate();
+    let compared = arrays.filter(move |(array, declared)| {
+        [Role::Out, Role::Inout].contains(&declared.role) && mask & (1 << array) != 0
+    });
+    compared.flat_map(|(array, declared)| (0..declared.cells()).map(move |cell| (array, cell)))
 }
 
 /// What two lists with the same tables should be answered.
 fn expected(left: &List, right: &List, mask: u16) -> Reply {
-    let (one, other) = (outcome(left), outcome(right));
+    let (one, other) = (APART.outcome(left), APART.outcome(right));
     if one.met.union(&other.met).count() > 4_096 {
         return Reply::Refused { side: Side::Both, number: 24, place: 0 };
     }
-    let mut count = 0;
-    for (array, declared) in left.tables.arrays().iter().enumerate() {
-        if ![Role::Out, Role::Inout].contains(&declared.role) || mask & (1 << array) == 0 {
-            continue;
-        }
-        for cell in 0..declared.cells() {
-            let element = (array as u32, cell as u32);
-            let held = |side: &Outcome| {
-                side.cells.get(&element).copied().unwrap_or(start(element.0, element.1))
-            };
-            if held(&one) != held(&other) {
-                return Reply::Differs { array, cell };
-            }
-        }
-        count += declared.cells();
+    match APART.difference(left, right, mask) {
+        Some((array, cell)) => Reply::Differs { array, cell },
+        None => Reply::Equal { count: elements(left, mask).count() },
     }
-    Reply::Equal { count }
+}
+
+/// Is the reply what values say? An "equal" also under meanings of few values.
+fn check(reply: Reply, left: &List, right: &List, mask: u16) {
+    assert_eq!(reply, expected(left, right, mask));
+    if matches!(reply, Reply::Equal { .. }) {
+        for (seed, values) in [(1, 2), (2, 2), (3, 3), (4, 17)] {
+            assert_eq!(Meaning { seed, values }.difference(left, right, mask), None);
+        }
+    }
 }
 
 #[test]
@@ -106,7 +148,7 @@ fn random_pairs_are_answered_as_values_say() {
             list
         });
         let [left, right] = [decode(&lists[0]).unwrap(), decode(&lists[1]).unwrap()];
-        assert_eq!(reply, expected(&left, &right, 0xFFFF));
+        check(reply, &left, &right, 0xFFFF);
         counts[kind] += 1;
     }
     assert!(counts[0] > 500 && counts[1] > 500 && counts[2] > 10, "{counts:?}");
@@ -126,7 +168,7 @@ fn random_lists_are_answered_as_values_say() {
             _ => continue,
         };
         let (left, right) = (decode(&left).unwrap(), decode(&right).unwrap());
-        assert_eq!(reply, expected(&left, &right, pair.mask));
+        check(reply, &left, &right, pair.mask);
         counts[kind] += 1;
     }
     assert!(counts[0] > 300 && counts[1] > 150 && counts[2] > 5, "{counts:?}");
