@@ -278,7 +278,7 @@ fn records_that_do_not_fit() {
 #[test]
 fn every_entry_is_reached_with_and_without_a_no() {
     let mut counts = BTreeMap::new();
-    for record in Records::new(3).take(20_000) {
+    for record in Records::new(3).take(30_000) {
         let line = line(&record);
         let words: Vec<_> = line.split(' ').collect();
         let shown = if words.get(1) == Some(&"0") { 3 } else { 2 };
@@ -294,6 +294,44 @@ fn every_entry_is_reached_with_and_without_a_no() {
     for kind in noes.into_iter().chain(all) {
         assert!(count(kind) >= 5, "{kind} in {counts:?}");
     }
+}
+
+/// An operator of the tables that a record lends.
+fn lent_operator(record: &[u8], number: usize) -> Option<u64> {
+    let word = |k: usize| record.get(49 + 8 * k..)?.first_chunk().map(|&b| u64::from_le_bytes(b));
+    (number < word(0)?.min(16) as usize).then(|| word(1 + number))?
+}
+
+/// Marks, and what is a mark but for some bits, reach each entry that looks at operators.
+#[test]
+fn tables_of_records_have_marks() {
+    let (mut arities, mut nested, mut near, mut read) = (0, 0, 0, 0);
+    for record in Records::new(4).take(30_000) {
+        let line = line(&record);
+        let argument = record.get(1..).and_then(|rest| rest.first_chunk());
+        let argument = argument.map_or(MOST, |&argument| usize::from_le_bytes(argument));
+        match record.first() {
+            Some(12) if lent_operator(&record, argument) == Some(0x82) => {
+                assert_eq!(line, "12 2");
+                arities += 1;
+            }
+            Some(12) => {
+                let operator = lent_operator(&record, argument);
+                let bits = [0x80, 0x83, 0x182, 0x8200, 0x1_0000_0082];
+                near += usize::from(operator.is_some_and(|operator| bits.contains(&operator)));
+            }
+            Some(18 | 19) => {
+                let marked = (0..16).any(|k| lent_operator(&record, k) == Some(0x82));
+                nested += usize::from(marked && line[2..].starts_with(" 1 "));
+            }
+            Some(22) => read += usize::from(line.starts_with("22 1 ") && line.contains(" 130 ")),
+            _ => {}
+        }
+    }
+    assert!(
+        arities > 50 && nested > 200 && near > 5 && read > 20,
+        "{arities} {nested} {near} {read}"
+    );
 }
 
 #[test]

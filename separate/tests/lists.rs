@@ -476,6 +476,7 @@ fn every_permitted_order_gives_the_same_reply() {
     assert!(changed > 100, "other orders are found out: {changed}");
 }
 
+/// New orders of the updates, and other orders of arguments that may swap.
 #[test]
 fn random_permitted_orders_give_the_same_reply() {
     let mut random = Random::new(5);
@@ -486,7 +487,8 @@ fn random_permitted_orders_give_the_same_reply() {
         if check_list(&left).is_err() || right.len() < LIST_WORDS {
             continue;
         }
-        let parts = Parts::of(&decode(&left).unwrap()).reordered(&mut random);
+        let parts = Parts::of(&decode(&left).unwrap());
+        let parts = parts.reordered(&mut random).swapped(&mut random);
         let mut words = parts.words();
         words.resize(left.len(), 0);
         assert_eq!(check_list(&words), Ok(()));

@@ -5,19 +5,22 @@ use std::collections::BTreeMap;
 use separate::entries;
 use separate::random::{Explanations, ListPairs, Pairs};
 use separate::stream::{inputs, lists, write_input, write_lists, Cut};
+use separate::tables::MARKED;
 use separate::{line_of, Reply, Side, Work};
 
-/// How often each side and number, or "equal", or "differs", was replied.
+/// A reply without its numbers, but with side and question of a refusal.
+fn kind(reply: Reply) -> String {
+    let line = line_of(reply).to_string();
+    match reply {
+        Reply::Refused { .. } => line.rsplit_once(' ').unwrap().0.to_string(),
+        _ => line.split_once(' ').unwrap().0.to_string(),
+    }
+}
+
+/// How often each kind was replied.
 fn histogram(replies: impl Iterator<Item = Reply>) -> BTreeMap<String, usize> {
     let mut counts = BTreeMap::new();
-    for reply in replies {
-        let line = line_of(reply).to_string();
-        let kind = match reply {
-            Reply::Refused { .. } => line.rsplit_once(' ').unwrap().0.to_string(),
-            _ => line.split_once(' ').unwrap().0.to_string(),
-        };
-        *counts.entry(kind).or_insert(0) += 1;
-    }
+    replies.for_each(|reply| *counts.entry(kind(reply)).or_insert(0) += 1);
     counts
 }
 
@@ -137,6 +140,44 @@ fn some_pairs_are_large() {
     assert!(bytes > 10_000, "{bytes}");
 }
 
+/// The program with its marks taken away.
+fn unmarked(program: &[u8]) -> Vec<u8> {
+    let mut program = program.to_vec();
+    let operators = usize::from(program[5]);
+    program[6..6 + operators].iter_mut().filter(|own| **own == MARKED).for_each(|own| *own = 2);
+    program
+}
+
+#[test]
+fn marks_and_versions_in_four_thousand_pairs() {
+    let mut work = Work::default();
+    let mut counts = BTreeMap::new();
+    let mut count = |kind: String| *counts.entry(kind).or_insert(0usize) += 1;
+    for input in Pairs::new(1).take(4_000) {
+        let reply = work.input(&input);
+        if matches!(reply, Reply::Refused { number: ..22, .. }) {
+            continue;
+        }
+        let (left, right) = separate::input::split(&input).unwrap();
+        if left[3] != right[3] {
+            count(format!("{}, two versions", kind(reply)));
+        }
+        let without = work.programs(&unmarked(left), &unmarked(right));
+        if without != reply {
+            count(format!("{}, without marks {}", kind(reply), kind(without)));
+        }
+    }
+    for (kind, least) in [
+        ("equal, two versions", 50),
+        ("differs, two versions", 20),
+        ("equal, without marks differs", 80),
+        ("equal, without marks refused both 24", 5),
+        ("refused both 23, without marks equal", 8),
+    ] {
+        assert!(counts.get(kind).is_some_and(|&count| count >= least), "{kind} in {counts:?}");
+    }
+}
+
 #[test]
 fn two_thousand_list_pairs_cover_everything() {
     let mut work = Work::default();
@@ -157,6 +198,37 @@ fn two_thousand_list_pairs_cover_everything() {
         assert!(counts.get(kind).is_some_and(|&count| count >= least), "{kind} in {counts:?}");
     }
     assert_eq!(counts.len(), 8, "{counts:?}");
+}
+
+/// Counts by the reply without marks, where it is another.
+#[test]
+fn marks_in_four_thousand_list_pairs() {
+    let mut work = Work::default();
+    let mut counts = BTreeMap::new();
+    for pair in ListPairs::new(2).take(4_000) {
+        let lists = [pair.left.slice(), pair.right.slice()];
+        let [left, right] = &lists;
+        let reply = work.lists(left, right, pair.mask);
+        if matches!(reply, Reply::Refused { number: 25 | 26, .. }) {
+            continue;
+        }
+        let [left, right] = lists.map(|mut list| {
+            list[1..17].iter_mut().filter(|word| **word == 130).for_each(|word| *word = 2);
+            list
+        });
+        let without = work.lists(&left, &right, pair.mask);
+        if without != reply {
+            let kinds = format!("{}, without marks {}", kind(reply), kind(without));
+            *counts.entry(kinds).or_insert(0usize) += 1;
+        }
+    }
+    for (kind, least) in [
+        ("equal, without marks differs", 80),
+        ("equal, without marks refused both 24", 5),
+        ("refused both 23, without marks equal", 8),
+    ] {
+        assert!(counts.get(kind).is_some_and(|&count| count >= least), "{kind} in {counts:?}");
+    }
 }
 
 #[test]

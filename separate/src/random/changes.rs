@@ -1,7 +1,7 @@
 //! Single changes, most of which change what a program computes.
 
 use super::Random;
-use crate::tables::arity;
+use crate::tables::{arity, MARKED};
 use crate::tree::{
     each_form, each_loop, each_node, each_statement, Expression, Form, Item, Source, Use,
 };
@@ -9,7 +9,7 @@ use crate::tree::{
 /// One change of a random kind, if the program has a place for it.
 pub fn change(source: &Source, random: &mut Random) -> Option<Source> {
     let mut source = source.clone();
-    let changed = match random.below(12) {
+    let changed = match random.below(13) {
         0 | 1 => change_operator(&mut source, random),
         2 | 3 => change_arguments(&mut source, random),
         4 | 5 => change_form(&mut source, random, &[Use::Subscript]),
@@ -18,6 +18,7 @@ pub fn change(source: &Source, random: &mut Random) -> Option<Source> {
         8 => change_form(&mut source, random, &[Use::Literal]),
         9 => change_form(&mut source, random, &[Use::Guard]),
         10 => change_name(&mut source, random),
+        11 => regroup(&mut source, random),
         _ => change_target(&mut source, random),
     };
     (changed && source.fits()).then_some(source)
@@ -66,10 +67,13 @@ fn change_operator(source: &mut Source, random: &mut Random) -> bool {
     })
 }
 
-/// Two arguments of an operator change places.
+/// Two arguments of an operator without a mark change places.
 fn change_arguments(source: &mut Source, random: &mut Random) -> bool {
+    let operators = source.operators.clone();
     let wanted = |node: &Expression| match node {
-        Expression::Operator { arguments, .. } => arguments.windows(2).any(|two| two[0] != two[1]),
+        Expression::Operator { number, arguments } => {
+            operators[*number] != MARKED && arguments.windows(2).any(|two| two[0] != two[1])
+        }
         _ => false,
     };
     at_node(&mut source.items, random, &wanted, &mut |node, random| {
@@ -79,6 +83,33 @@ fn change_arguments(source: &mut Source, random: &mut Random) -> bool {
             arguments.swap(one, other);
         }
     })
+}
+
+/// f(f(a, b), c) becomes f(a, f(b, c)), or the other way round.
+fn regroup(source: &mut Source, random: &mut Random) -> bool {
+    let wanted = |node: &Expression| regrouped(node).is_some();
+    at_node(&mut source.items, random, &wanted, &mut |node, _| {
+        if let Some(other) = regrouped(node) {
+            *node = other;
+        }
+    })
+}
+
+fn regrouped(node: &Expression) -> Option<Expression> {
+    let Expression::Operator { number, arguments } = node else { return None };
+    let [first, second] = arguments.as_slice() else { return None };
+    let parts = |node: &Expression| match node {
+        Expression::Operator { number: inner, arguments } if inner == number => {
+            Some([arguments[0].clone(), arguments[1].clone()])
+        }
+        _ => None,
+    };
+    let join = |one, other| Expression::Operator { number: *number, arguments: vec![one, other] };
+    if let Some([one, other]) = parts(first) {
+        return Some(join(one, join(other, second.clone())));
+    }
+    let [one, other] = parts(second)?;
+    Some(join(join(first.clone(), one), other))
 }
 
 /// A form of one of these uses gets another constant or coefficient.
@@ -158,4 +189,25 @@ fn change_target(source: &mut Source, random: &mut Random) -> bool {
         at += 1;
     });
     true
+}
+
+#[cfg(test)]
+mod tests {
+    use super::*;
+
+    #[test]
+    fn regrouping_keeps_the_order_of_the_parts() {
+        let leaf = |name: u32| Expression::Constant(name);
+        let join = |number: usize, one: Expression, other: Expression| Expression::Operator {
+            number,
+            arguments: vec![one, other],
+        };
+        let left = join(0, join(0, leaf(1), leaf(2)), leaf(3));
+        let right = join(0, leaf(1), join(0, leaf(2), leaf(3)));
+        assert_eq!(regrouped(&left), Some(right.clone()));
+        assert_eq!(regrouped(&right), Some(left));
+        // Not across operators, and not without a sum within.
+        assert_eq!(regrouped(&join(0, join(1, leaf(1), leaf(2)), leaf(3))), None);
+        assert_eq!(regrouped(&join(0, leaf(1), leaf(2))), None);
+    }
 }

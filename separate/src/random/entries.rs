@@ -5,6 +5,7 @@ use super::{Pairs, Random};
 use crate::entries::numbers::{flat, Row, ROW};
 use crate::limits::{CELL_WORDS, LIST_WORDS, PROGRAM_BYTES, TERM_WORDS};
 use crate::read::read_tables;
+use crate::tables::MARKED;
 
 /// A record is no longer.
 pub(super) const RECORD: usize = 65_536;
@@ -140,12 +141,11 @@ impl Records {
         }
         for _ in 0..1 + self.random.below(4) {
             let place = self.random.below(bytes.len());
-            let byte = if self.random.chance(50) {
-                self.random.below(20) as u8
-            } else {
-                self.random.byte()
+            bytes[place] = match self.random.below(20) {
+                0..10 => self.random.below(20) as u8,
+                10 => MARKED,
+                _ => self.random.byte(),
             };
-            bytes[place] = byte;
         }
     }
 
@@ -164,6 +164,7 @@ impl Records {
             let most = *self.random.pick(&[3, 4, 16, 2_000]);
             let arrays = [0, 17].map(|_| self.small(16));
             let mut row = std::array::from_fn(|_| self.small(most));
+            self.marks(&mut row);
             [row[0], row[17]] = arrays;
             return row;
         };
@@ -172,8 +173,20 @@ impl Records {
             for _ in 0..1 + self.random.below(4) {
                 row[self.random.below(ROW)] = self.number(16);
             }
+            self.marks(&mut row);
         }
         row
+    }
+
+    /// Some operators become marks, or numbers that are a mark but for some bits.
+    fn marks(&mut self, row: &mut Row) {
+        let mark = usize::from(MARKED);
+        for operator in &mut row[1..=16] {
+            if self.random.chance(20) {
+                let near = *self.random.pick(&[2, 0x80, 0x83, 0x182, 0x8200, mark + (1 << 32)]);
+                *operator = if self.random.chance(70) { mark } else { near };
+            }
+        }
     }
 
     /// A place where one of these bytes stands, or any.
@@ -205,16 +218,23 @@ impl Records {
 
     fn tabled(&mut self, entry: u8) -> Vec<u8> {
         let bytes = self.bytes();
-        let row = self.row(&bytes).map(|number| (number as u64).to_le_bytes());
-        let (a, b) = (self.small(17), self.small(4));
+        let row = self.row(&bytes);
+        // Most tables declare few operators.
+        let declared = row[0].clamp(1, 16);
+        let few = entry == 12 && self.random.chance(60);
+        let a = if few { self.random.below(declared) } else { self.small(17) };
+        let b = self.small(4);
+        let row = row.map(|number| (number as u64).to_le_bytes());
         record(entry, [a, b, 0, 0, 0, 0], row.as_flattened())
     }
 
-    /// One operator or guard in the other, at and around the limits.
-    fn deep(&mut self, entry: u8) -> Vec<u8> {
+    /// One operator or guard in the other, at and around the limits; operators
+    /// within the first argument where there are two.
+    fn deep(&mut self, entry: u8, arity: usize) -> Vec<u8> {
         if entry == 18 {
             let leaf = [0x13, 1, 2, 3, 4];
-            return [[0x11, 0].repeat(10 + self.random.below(5)), leaf.to_vec()].concat();
+            let depth = 10 + self.random.below(5);
+            return [[0x11, 0].repeat(depth), leaf.repeat(1 + (arity - 1) * depth)].concat();
         }
         let depth = 6 + self.random.below(5);
         [[3, 0, 0].repeat(depth), vec![0; depth + 1]].concat()
@@ -224,10 +244,15 @@ impl Records {
     fn nested(&mut self, entry: u8) -> Vec<u8> {
         if self.random.chance(5) {
             let mut row = self.row(&[]);
-            [row[0], row[1]] = [1, 1];
+            let (operator, arity) = *self.random.pick(&[(1, 1), (2, 2), (usize::from(MARKED), 2)]);
+            [row[0], row[1]] = [1, operator];
             let row = row.map(|number| (number as u64).to_le_bytes());
             let arguments = [0, if entry == 18 { 0 } else { 8 }, 0, 0, 0, 0];
-            return record(entry, arguments, &[row.as_flattened(), &self.deep(entry)].concat());
+            return record(
+                entry,
+                arguments,
+                &[row.as_flattened(), &self.deep(entry, arity)].concat(),
+            );
         }
         let mut bytes = if self.random.chance(40) { self.soup() } else { self.program() };
         let row = self.row(&bytes).map(|number| (number as u64).to_le_bytes());

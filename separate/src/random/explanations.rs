@@ -80,8 +80,10 @@ impl Explanations {
         let mut pair = (Vec::new(), Vec::new());
         for _ in 0..ATTEMPTS {
             let role = *self.random.pick(&["out", "inout"]);
-            let left = nest(&mut self.random, role);
-            let Some(right) = self.other(&left, role) else { continue };
+            let star = *self.random.pick(&["", "*"]);
+            let head = format!("op f/2{star} array A in [8] array B {role} [40]");
+            let left = nest(&mut self.random, &head);
+            let Some(right) = self.other(&left, &head) else { continue };
             pair = (bytes_of(&left), bytes_of(&right));
             if matches!(self.work.programs(&pair.0, &pair.1), Reply::Differs { .. }) {
                 break;
@@ -95,7 +97,7 @@ impl Explanations {
     }
 
     /// The same with a change, or without its last items, or another nest.
-    fn other(&mut self, source: &Source, role: &str) -> Option<Source> {
+    fn other(&mut self, source: &Source, head: &str) -> Option<Source> {
         match self.random.below(10) {
             0..=4 => change(source, &mut self.random),
             5..=7 => {
@@ -103,15 +105,15 @@ impl Explanations {
                 shorter.items.truncate(self.random.below(source.items.len()));
                 Some(shorter)
             }
-            _ => Some(nest(&mut self.random, role)),
+            _ => Some(nest(&mut self.random, head)),
         }
     }
 }
 
-/// Some statements and loops over tables that are always the same but for the
+/// Some statements and loops behind declarations that both sides share, and
 /// locals, which nothing writes.
-fn nest(random: &mut Random, role: &str) -> Source {
-    let mut text = format!("op f/2 array A in [8] array B {role} [40] array C inout [2, 3]\n");
+fn nest(random: &mut Random, head: &str) -> Source {
+    let mut text = format!("{head} array C inout [2, 3]\n");
     if random.chance(30) {
         text += &format!("array T local [{}]\n", random.between(1, 5));
     }

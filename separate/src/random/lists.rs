@@ -1,5 +1,7 @@
 //! Random pairs of update lists.
 
+use std::ops::Range;
+
 use super::programs::{program, tables};
 use super::{templates, Random};
 use crate::compare::ALL;
@@ -7,7 +9,7 @@ use crate::limits::{CELLS, LIST_WORDS, NODES, OPERATOR_NESTING, UPDATES};
 use crate::list::{code, decode, write_header, List, Record, HEADER};
 use crate::reply::Reply;
 use crate::stream::{ListPair, Stored};
-use crate::tables::{arity, Array, Role, Tables};
+use crate::tables::{arity, Array, Role, Tables, MARKED};
 use crate::tree::{encode, Declaration};
 use crate::work::Work;
 
@@ -80,6 +82,19 @@ impl Parts {
         Parts { tables: self.tables.clone(), updates }
     }
 
+    /// Arguments of marked operators change places, at any depth.
+    pub fn swapped(&self, random: &mut Random) -> Parts {
+        let mut parts = self.clone();
+        for records in &mut parts.updates {
+            for at in 1..records.len() {
+                if operator(&self.tables, &records[at]) == Some(MARKED) && random.chance(50) {
+                    swap_arguments(&self.tables, records, at);
+                }
+            }
+        }
+        parts
+    }
+
     /// How many updates each one has to wait for, and which wait for it. Going
     /// by the last write of a cell and the reads since is enough: the rest of
     /// the conflicts follow.
@@ -112,6 +127,38 @@ impl Parts {
     }
 }
 
+/// The byte of the operator that a record is, if it is one.
+fn operator(tables: &Tables, record: &Record) -> Option<u8> {
+    (record[0] == code::OPERATOR).then(|| tables.operators()[record[1] as usize])
+}
+
+/// The place behind the expression at a place.
+fn behind(tables: &Tables, records: &[Record], mut at: usize) -> usize {
+    let mut missing = 1;
+    while missing > 0 {
+        missing -= 1;
+        missing +=
+            operator(tables, &records[at]).map_or(0, |operator| usize::from(arity(operator)));
+        at += 1;
+    }
+    at
+}
+
+/// The first two arguments of the operator at a place change places.
+fn swap_arguments(tables: &Tables, records: &mut [Record], at: usize) {
+    let first = at + 1;
+    let second = behind(tables, records, first);
+    let end = behind(tables, records, second);
+    records[first..end].rotate_left(second - first);
+}
+
+/// f(f(a, b), c) at a place becomes f(a, f(b, c)).
+fn regroup(tables: &Tables, records: &mut Vec<Record>, at: usize) {
+    let inner = records.remove(at + 1);
+    let first = behind(tables, records, at + 1);
+    records.insert(first, inner);
+}
+
 impl ListPairs {
     pub fn new(seed: u64) -> ListPairs {
         ListPairs { random: Random::new(seed), work: Work::default() }
@@ -122,19 +169,20 @@ impl ListPairs {
         let words = base.words();
         match self.random.below(100) {
             0..5 => (words.clone(), words),
-            5..35 => (base.reordered(&mut self.random).words(), words),
+            5..35 => (self.rearranged(&base).words(), words),
             35..65 => {
                 let changed = self.changed(&base, &words);
                 (words, changed.words())
             }
             65..85 => {
-                let mut other = base.reordered(&mut self.random).words();
+                let mut other = self.rearranged(&base).words();
                 self.damage(&mut other);
                 (words, other)
             }
             85..88 => (words, self.at_limit(&base).words()),
             88..90 => (words, self.list().words()),
-            90..92 => self.many_terms(),
+            90..91 => self.many_terms(),
+            91..92 => self.many_sums(),
             92..98 => {
                 let mut other = words.clone();
                 self.change_table(&mut other);
@@ -145,6 +193,16 @@ impl ListPairs {
                 self.damage_behind(&mut other);
                 (words, other)
             }
+        }
+    }
+
+    /// A new order, and other orders of arguments that may swap.
+    fn rearranged(&mut self, parts: &Parts) -> Parts {
+        let parts = parts.reordered(&mut self.random);
+        if self.random.chance(70) {
+            parts.swapped(&mut self.random)
+        } else {
+            parts
         }
     }
 
@@ -201,7 +259,7 @@ impl ListPairs {
         let base_slice = Stored { length: LIST_WORDS, words: words.to_vec() }.slice();
         let mut other = base.clone();
         for _ in 0..8 {
-            other = base.reordered(&mut self.random);
+            other = self.rearranged(base);
             self.change(&mut other);
             let slice = Stored { length: LIST_WORDS, words: other.words() }.slice();
             if matches!(self.work.lists(&base_slice, &slice, ALL), Reply::Differs { .. }) {
@@ -211,11 +269,50 @@ impl ListPairs {
         other
     }
 
-    /// One record becomes another; the list may or may not stay accepted.
+    /// One change; the list may or may not stay accepted.
     fn change(&mut self, parts: &mut Parts) {
         if parts.updates.is_empty() {
             return;
         }
+        match self.random.below(10) {
+            0 => self.change_arguments(parts),
+            1 => self.regroup(parts),
+            _ => self.change_record(parts),
+        }
+    }
+
+    /// One of the operators that are wanted, by its update and place.
+    fn operator(
+        &mut self,
+        parts: &Parts,
+        wanted: impl Fn(u8, &[Record]) -> bool,
+    ) -> Option<(usize, usize)> {
+        let mut found = Vec::new();
+        for (update, records) in parts.updates.iter().enumerate() {
+            let is_wanted = |&at: &usize| {
+                operator(&parts.tables, &records[at]).is_some_and(|own| wanted(own, &records[at..]))
+            };
+            found.extend((1..records.len()).filter(is_wanted).map(|at| (update, at)));
+        }
+        (!found.is_empty()).then(|| *self.random.pick(&found))
+    }
+
+    fn change_arguments(&mut self, parts: &mut Parts) {
+        let unmarked = |operator, _: &[Record]| operator != MARKED && arity(operator) > 1;
+        if let Some((update, at)) = self.operator(parts, unmarked) {
+            swap_arguments(&parts.tables, &mut parts.updates[update], at);
+        }
+    }
+
+    fn regroup(&mut self, parts: &mut Parts) {
+        let twice = |operator, records: &[Record]| arity(operator) == 2 && records[0] == records[1];
+        if let Some((update, at)) = self.operator(parts, twice) {
+            regroup(&parts.tables, &mut parts.updates[update], at);
+        }
+    }
+
+    /// One record becomes another.
+    fn change_record(&mut self, parts: &mut Parts) {
         let random = &mut self.random;
         let update = random.below(parts.updates.len());
         let records = &mut parts.updates[update];
@@ -246,7 +343,7 @@ impl ListPairs {
             0 => 0,
             1 => word.wrapping_add(1),
             2 => word.wrapping_sub(1),
-            3 => *self.random.pick(&[1, 16, 17, 18, 19]),
+            3 => *self.random.pick(&[1, 16, 17, 18, 19, u32::from(MARKED)]),
             4 => self.random.below(20) as u32,
             5 => word ^ 1 << self.random.below(32),
             6 => *self.random.pick(&[3, 4, 5, 1_024, 1_025, 2_048, u32::MAX]),
@@ -254,21 +351,36 @@ impl ListPairs {
         }
     }
 
-    /// Another role, extent or arity, or an operator more: 22 or 23 if the
-    /// list stays accepted.
+    /// Another role, extent, operator or mark, or an operator more: 22 or 23 if
+    /// the list stays accepted.
     fn change_table(&mut self, words: &mut [u32]) {
         let operators = words[0] as usize;
-        match self.random.below(4) {
+        let other = u32::from(*self.random.pick(&[1, 2, 3, 4, MARKED]));
+        match self.random.below(6) {
             0 if operators < 16 => {
                 words[0] += 1;
-                words[1 + operators] = 1 + self.random.below(4) as u32;
+                words[1 + operators] = other;
             }
-            1 if operators > 0 => words[operators] = 1 + self.random.below(4) as u32,
-            2 => words[18 + 5 * self.random.below(4)] = self.random.below(4) as u32,
+            1 if operators > 0 => words[operators] = other,
+            2 | 3 if operators > 0 => {
+                let number = 1 + self.random.below(operators);
+                words[number] = self.other_mark(words[number]);
+            }
+            4 => words[18 + 5 * self.random.below(4)] = self.random.below(4) as u32,
             _ => {
                 let extent = &mut words[20 + 5 * self.random.below(4) + self.random.below(3)];
                 *extent = extent.wrapping_add(*self.random.pick(&[1, 1, 2, u32::MAX]));
             }
+        }
+    }
+
+    /// An operator of two arguments gets a mark or loses it; or a word that is
+    /// a mark's but for some bits.
+    fn other_mark(&mut self, word: u32) -> u32 {
+        match word {
+            2 if self.random.chance(60) => u32::from(MARKED),
+            130 if self.random.chance(60) => 2,
+            _ => *self.random.pick(&[128, 131, 0x42, 0x182, 0x8200, 0x1_0082, 0x8000_0082]),
         }
     }
 
@@ -317,23 +429,49 @@ impl ListPairs {
 
     /// 4,096 terms, a few more or a few less, about half of them on each side.
     fn many_terms(&mut self) -> (Vec<u32>, Vec<u32>) {
-        let array = Declaration { role: Role::Out, extents: vec![1_024, 2] };
-        let tables = tables_of(&[1], &[array]);
-        let side = |first: usize, names: std::ops::Range<usize>| {
-            let literals = (first..first + 1_024)
-                .map(|value| vec![[code::OPERATOR, 0, 0], [code::LITERAL, value as u32, 0]]);
-            let constants = names.map(|name| vec![[code::CONSTANT, name as u32, 0]]);
-            let update = |(cell, mut expression): (usize, Vec<Record>)| {
-                expression.insert(0, [code::UPDATE, 0, cell as u32]);
-                expression
-            };
-            let updates = literals.chain(constants).enumerate().map(update).collect();
-            Parts { tables: tables.clone(), updates }.words()
+        let side = |first: usize, names: Range<usize>| {
+            let literals =
+                (first..first + 1_024).map(|value| vec![[code::OPERATOR, 0, 0], literal(value)]);
+            let constants = names.map(|name| vec![constant(name)]);
+            in_a_row(1, literals.chain(constants).collect()).words()
         };
         let overlap = self.random.below(3);
         let (left, right) = (self.random.below(4), self.random.below(4));
         (side(0, 0..left), side(1_024 - overlap, 10..10 + right))
     }
+
+    /// 4,096 terms up to swaps, or one more, all but that one on both sides.
+    fn many_sums(&mut self) -> (Vec<u32>, Vec<u32>) {
+        let side = |random: &mut Random, more: bool| {
+            let both = (0..1_023).flat_map(|first| [[first, first + 1_024], [first, first + 1]]);
+            let of_literals = both.map(|both| both.map(literal));
+            let sums = of_literals.chain([[0, 1].map(constant)]);
+            let sums = sums.map(|[one, other]| vec![[code::OPERATOR, 0, 0], one, other]);
+            let more = more.then(|| vec![constant(2)]);
+            in_a_row(MARKED, sums.chain(more).collect()).swapped(random).words()
+        };
+        let (left, right) = (self.random.chance(25), self.random.chance(25));
+        (side(&mut self.random, left), side(&mut self.random, right))
+    }
+}
+
+fn literal(value: usize) -> Record {
+    [code::LITERAL, value as u32, 0]
+}
+
+fn constant(name: usize) -> Record {
+    [code::CONSTANT, name as u32, 0]
+}
+
+/// One operator, and a cell of one array for each expression.
+fn in_a_row(operator: u8, expressions: Vec<Vec<Record>>) -> Parts {
+    let array = Declaration { role: Role::Out, extents: vec![1_024, 2] };
+    let tables = tables_of(&[operator], &[array]);
+    let update = |(cell, mut expression): (usize, Vec<Record>)| {
+        expression.insert(0, [code::UPDATE, 0, cell as u32]);
+        expression
+    };
+    Parts { tables, updates: expressions.into_iter().enumerate().map(update).collect() }
 }
 
 /// Operators `levels` deep, first argument first.

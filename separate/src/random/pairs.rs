@@ -3,11 +3,11 @@
 use super::changes::change;
 use super::programs::program;
 use super::refusals::refused;
-use super::rewrites::{renumber_arrays, IF_INDEPENDENT, SAFE};
+use super::rewrites::{renumber_arrays, swap_arguments, IF_INDEPENDENT, SAFE};
 use super::{templates, Random, ATTEMPTS};
 use crate::limits::PROGRAM_BYTES;
 use crate::reply::Reply;
-use crate::tables::Role;
+use crate::tables::{arity, Role, MARKED};
 use crate::tree::{each_node, encode, Declaration, Expression, Form, Source};
 use crate::work::Work;
 
@@ -90,9 +90,9 @@ impl Pairs {
     /// Mostly small programs, so that thousands run in a second.
     fn base(&mut self) -> Source {
         match self.random.below(1_000) {
-            0..12 => templates::large(&mut self.random),
-            12..120 => templates::nest(&mut self.random),
-            120..126 => {
+            0..14 => templates::large(&mut self.random),
+            14..122 => templates::nest(&mut self.random),
+            122..128 => {
                 let tables = program(&mut self.random, &mut self.work);
                 Source { items: Vec::new(), ..tables }
             }
@@ -108,9 +108,10 @@ impl Pairs {
         matches!(self.reply(left, right), Reply::Equal { .. })
     }
 
-    /// One to four rewrites that together change nothing.
+    /// One to four rewrites that together change nothing, and often swaps.
     fn rewritten(&mut self, base: &Source) -> Source {
-        let mut source = base.clone();
+        let swapped = swap_arguments(base, &mut self.random).filter(|_| self.random.chance(75));
+        let mut source = swapped.unwrap_or_else(|| base.clone());
         for _ in 0..1 + self.random.below(4) {
             let safe = self.random.chance(65);
             let rewrites = if safe { &SAFE[..] } else { &IF_INDEPENDENT[..] };
@@ -126,6 +127,10 @@ impl Pairs {
     }
 
     fn equal(&mut self) -> Vec<u8> {
+        if self.random.chance(1) {
+            let (left, right) = templates::as_many_terms_as_can_be(&mut self.random);
+            return frame(&bytes_of(&left), &bytes_of(&right));
+        }
         let mut input = Vec::new();
         for _ in 0..ATTEMPTS {
             let base = self.base();
@@ -184,13 +189,14 @@ impl Pairs {
 
     fn damage(&mut self, input: &mut Vec<u8>, place: usize) {
         let place = place.min(input.len() - 1);
-        match self.random.below(10) {
+        match self.random.below(11) {
             0 => input.insert(place, self.random.byte()),
             1 if input.len() > 1 => drop(input.remove(place)),
             2..=4 => input[place] ^= 1 << self.random.below(8),
             5 | 6 => input[place] = self.random.below(4) as u8,
             7 => input[place] = input[place].wrapping_add(1),
             8 => input[place] = input[place].wrapping_sub(1),
+            9 => input[place] = MARKED,
             _ => input[place] = self.random.byte(),
         }
     }
@@ -334,14 +340,16 @@ fn one_dimension_more(source: &mut Source, array: usize) {
 
 fn unlike_operators(source: &mut Source, random: &mut Random) {
     let count = source.operators.len();
-    match random.below(3) {
-        0 => source.operators.push(1 + random.below(4) as u8),
+    let more = *random.pick(&[1, 2, 3, 4, MARKED]);
+    match random.below(5) {
+        0 => source.operators.push(more),
         1 => {
             // One operator more, before some others.
             let at = random.below(count + 1);
-            source.operators.insert(at, 1 + random.below(4) as u8);
+            source.operators.insert(at, more);
             renumber_operators(source, &|number| number + usize::from(number >= at));
         }
+        2 | 3 => unlike_mark(source, random),
         _ => {
             if count > 0 {
                 let (one, other) = (random.below(count), random.below(count));
@@ -354,6 +362,18 @@ fn unlike_operators(source: &mut Source, random: &mut Random) {
             }
         }
     }
+}
+
+/// An operator of two arguments gets a mark or loses it.
+fn unlike_mark(source: &mut Source, random: &mut Random) {
+    let two = |operator: &&mut u8| arity(**operator) == 2;
+    let mut found: Vec<_> = source.operators.iter_mut().filter(two).collect();
+    if found.is_empty() {
+        return;
+    }
+    let chosen = random.below(found.len());
+    let operator = &mut *found[chosen];
+    *operator = if *operator == MARKED { 2 } else { MARKED };
 }
 
 fn renumber_operators(source: &mut Source, renumbered: &dyn Fn(usize) -> usize) {

@@ -2,7 +2,8 @@
 
 use super::{Random, ATTEMPTS};
 use crate::limits::OPERATOR_NESTING;
-use crate::tables::{arity, Role};
+use crate::read::MARKS;
+use crate::tables::{arity, Role, MARKED};
 use crate::tree::{encode, Declaration, Expression, Form, Guard, Item, Loop, Source, Statement};
 use crate::work::Work;
 
@@ -24,7 +25,21 @@ fn attempt(random: &mut Random) -> Source {
     let nesting = if random.chance(10) { 8 } else { 4 };
     let mut maker = Maker { random, operators, arrays, filled, fresh: Vec::new(), nesting };
     let items = maker.program();
-    Source { version: None, operators: maker.operators, arrays: maker.arrays, items }
+    let (operators, arrays) = (maker.operators, maker.arrays);
+    // Without a mark too.
+    let version = random.chance(10).then_some(MARKS);
+    Source { version, operators, arrays, items }
+}
+
+/// In some tables, some operators of two arguments become marked.
+pub fn mark_some(operators: &mut [u8], random: &mut Random) {
+    if random.chance(55) {
+        for operator in operators.iter_mut().filter(|operator| **operator == 2) {
+            if random.chance(70) {
+                *operator = MARKED;
+            }
+        }
+    }
 }
 
 /// Operators and arrays; at least one array can be written.
@@ -34,7 +49,9 @@ pub fn tables(random: &mut Random) -> (Vec<u8>, Vec<Declaration>) {
         1 => 16,
         _ => 1 + random.below(4),
     };
-    let arities = (0..operators).map(|_| *random.pick(&[1, 2, 2, 2, 2, 3, 3, 4])).collect();
+    let pick = |_| *random.pick(&[1, 2, 2, 2, 2, 3, 3, 4]);
+    let mut operators: Vec<_> = (0..operators).map(pick).collect();
+    mark_some(&mut operators, random);
     let count = if random.chance(4) { 16 } else { 1 + random.below(5) };
     let mut roles: Vec<_> = (0..count).map(|_| role(random)).collect();
     if roles.iter().all(|&role| role == Role::In) {
@@ -43,7 +60,7 @@ pub fn tables(random: &mut Random) -> (Vec<u8>, Vec<Declaration>) {
     // A stable sort: locals come last, the others stay mixed.
     roles.sort_by_key(|&role| role == Role::Local);
     let arrays = roles.into_iter().map(|role| Declaration { role, extents: extents(random) });
-    (arities, arrays.collect())
+    (operators, arrays.collect())
 }
 
 fn role(random: &mut Random) -> Role {

@@ -4,7 +4,7 @@ use super::changes::change_form;
 use super::programs::program;
 use super::{Random, ATTEMPTS};
 use crate::limits::{CELLS, ITEM_NESTING, OPERATOR_NESTING, PROGRAM_BYTES};
-use crate::tables::{arity, Role};
+use crate::tables::{arity, Role, MARKED};
 use crate::tree::{
     each_node, each_statement, encode, nesting, Declaration, Encoded, Expression, Field, Form,
     Guard, Item, Loop, Source, Statement, Use,
@@ -29,8 +29,9 @@ fn attempt(number: u8, source: Source, random: &mut Random) -> Option<Vec<u8>> {
         2 => Some(too_long(&source, random)),
         3 => Some(cut(&source, random)),
         4 => Some(other_bytes(&source, random, 0, 3)),
-        5 => Some(other_bytes(&source, random, 3, 2)),
-        6 => out_of_range(&source, random, &[(Field::OperatorCount, 16), (Field::Operator, 4)]),
+        5 => Some(wrong_version(source, random)),
+        6 if random.chance(40) => out_of_range(&source, random, &[(Field::OperatorCount, 16)]),
+        6 => wrong_operator(source, random),
         7 => array_table(source, random),
         8 => Some(too_many_cells(source, random)),
         9 => wrong_code(&source, random),
@@ -73,6 +74,29 @@ fn other_bytes(source: &Source, random: &mut Random, first: usize, count: usize)
         bytes[first + random.below(count)] = random.byte();
     }
     bytes
+}
+
+/// Sometimes wrong by one byte alone.
+fn wrong_version(mut source: Source, random: &mut Random) -> Vec<u8> {
+    let near = [0, 3, 4, 0x82, 0x100, 0x101, 0x102, 0x200, 0x201, 0x202, 0x8002];
+    let near = *random.pick(&near);
+    source.version = Some(if random.chance(70) { near } else { random.draw() as u16 });
+    bytes_of(&source)
+}
+
+/// A byte that is no operator, or a mark in version 1.
+fn wrong_operator(mut source: Source, random: &mut Random) -> Option<Vec<u8>> {
+    let version = 1 + random.below(2) as u16;
+    source.version = Some(version);
+    let mut encoded = encode(&source);
+    let (_, place) = place(&encoded, random, &[Field::Operator])?;
+    let near = *random.pick(&[0, 5, 0x42, 0x80, 0x81, 0x83, 0x84, 0xC2, 0xFF]);
+    encoded.bytes[place] = match random.below(10) {
+        0..5 if version == 1 => MARKED,
+        0..8 => near,
+        _ => random.byte(),
+    };
+    Some(encoded.bytes)
 }
 
 /// Where a random field of one of these kinds begins.

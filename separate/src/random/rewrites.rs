@@ -4,7 +4,8 @@
 //! they break no dependence, which is left to a comparison to find out.
 
 use super::Random;
-use crate::tables::Role;
+use crate::read::MARKS;
+use crate::tables::{Role, MARKED};
 use crate::tree::{
     each_form, each_node, each_statement, Declaration, Expression, Form, Guard, Item, Loop, Source,
     Statement,
@@ -12,7 +13,7 @@ use crate::tree::{
 
 pub type Rewrite = fn(&Source, &mut Random) -> Option<Source>;
 
-pub const SAFE: [Rewrite; 16] = [
+pub const SAFE: [Rewrite; 18] = [
     tile,
     mirror,
     shift,
@@ -29,6 +30,8 @@ pub const SAFE: [Rewrite; 16] = [
     copy_to_itself,
     through_local,
     renumber_locals,
+    swap_arguments,
+    other_version,
 ];
 
 pub const IF_INDEPENDENT: [Rewrite; 5] = [reverse, interchange, tile_both, distribute, swap];
@@ -398,6 +401,27 @@ pub fn renumber_arrays(source: &mut Source, number: &dyn Fn(usize) -> usize) {
             *array = number(*array);
         }
     });
+}
+
+/// Arguments of marked operators change places, at any depth.
+pub fn swap_arguments(source: &Source, random: &mut Random) -> Option<Source> {
+    let mut source = source.clone();
+    let operators = &source.operators;
+    let mut swapped = false;
+    each_node(&mut source.items, &mut |node| {
+        let Expression::Operator { number, arguments } = node else { return };
+        if operators[*number] == MARKED && random.chance(50) {
+            arguments.swap(0, 1);
+            swapped = true;
+        }
+    });
+    swapped.then_some(source)
+}
+
+/// The other version, where no operator is marked.
+fn other_version(source: &Source, _: &mut Random) -> Option<Source> {
+    let version = if source.version.is_some() { None } else { Some(MARKS) };
+    (source.least_version() != MARKS).then(|| Source { version, ..source.clone() })
 }
 
 /// The rounds the other way round.

@@ -1,6 +1,7 @@
 //! Programs of known shapes with random sizes: common loop nests, and programs
 //! at or near the limits.
 
+use super::programs::mark_some;
 use super::Random;
 use crate::notation::parse;
 use crate::tree::Source;
@@ -21,7 +22,13 @@ pub fn nest(random: &mut Random) -> Source {
         5 => with_local(n * 2),
         _ => copy_backwards(n, m),
     };
-    source(&text)
+    marked(&text, random)
+}
+
+fn marked(text: &str, random: &mut Random) -> Source {
+    let mut source = source(text);
+    mark_some(&mut source.operators, random);
+    source
 }
 
 fn jacobi(points: i32, steps: i32) -> String {
@@ -96,15 +103,16 @@ fn copy_backwards(n: i32, m: i32) -> String {
 
 /// A program near one of the limits.
 pub fn large(random: &mut Random) -> Source {
-    let text = match random.below(6) {
+    let text = match random.below(7) {
         0 => many_rounds(random),
         1 => many_updates(random.between(1_000, 1_024), random.between(950, 1_024)),
         2 => many_nodes(random.between(2_000, 2_048)),
         3 => product(12, 12, random.between(9, 12)),
         4 => many_statements(random),
+        5 => many_sums(random.between(1_000, 1_023), random.chance(50), THREE),
         _ => many_terms(random.between(1_000, 1_024), 0, 0),
     };
-    source(&text)
+    marked(&text, random)
 }
 
 /// At most 65,536 rounds, of which few do anything.
@@ -170,10 +178,42 @@ fn many_terms(first: i32, more: i32, shift: i32) -> String {
     text
 }
 
+/// Three terms more than `many_sums` has, whichever way it swaps.
+const THREE: &str = "A[0] = add(const 0, const 1)";
+
+/// Twice so many sums of two literals each, which may swap. With 1,023 of them
+/// 2,047 literals and 2,046 sums; the same the other way round adds none.
+fn many_sums(sums: i32, swapped: bool, more: &str) -> String {
+    let last = sums - 1;
+    let [far, near] =
+        if swapped { ["i + 1024, i", "i + 1, i"] } else { ["i, i + 1024", "i, i + 1"] };
+    format!(
+        "op add/2* array A out [1023] array B out [1024] array C out [1]
+        for i = 0 to {last} {{ C[0] = add({far}) }}
+        for i = 0 to {last} {{ B[i] = add({near}) }}
+        {more}"
+    )
+}
+
+/// Two programs that are equal and have 4,096 terms up to swaps, and with both
+/// orders more.
+pub fn as_many_terms_as_can_be(random: &mut Random) -> (Source, Source) {
+    let left = many_sums(1_023, random.chance(50), THREE);
+    let right = many_sums(1_023, random.chance(50), "A[0] = add(const 1, const 0)");
+    (source(&left), source(&right))
+}
+
 /// Two programs with too many terms together; each side alone may have enough.
 pub fn too_many_terms(random: &mut Random) -> (Source, Source) {
     let other = random.between(1, 20_000);
-    let (left, right) = match random.below(3) {
+    let (left, right) = match random.below(4) {
+        // 4,097 up to swaps, the last of them on the right.
+        3 => {
+            let last = *random.pick(&["A[1] = const 2", "A[1] = add(const 1, const 1)"]);
+            let (one, other) = (random.chance(50), random.chance(50));
+            let right = many_sums(random.between(1, 1_023), other, &format!("{THREE} {last}"));
+            (many_sums(1_023, one, THREE), right)
+        }
         0 => (many_terms(1_023, 5, 0), many_terms(1_023, 0, 0)),
         1 => (many_terms(1_024, 0, 0), many_terms(random.between(1, 30), 0, other)),
         _ => (many_terms(1_022, 0, 0), many_terms(random.between(530, 1_024), 0, other + 1_500)),
