@@ -9,7 +9,7 @@ use crate::tree::{
 /// One change of a random kind, if the program has a place for it.
 pub fn change(source: &Source, random: &mut Random) -> Option<Source> {
     let mut source = source.clone();
-    let changed = match random.below(13) {
+    let changed = match random.below(14) {
         0 | 1 => change_operator(&mut source, random),
         2 | 3 => change_arguments(&mut source, random),
         4 | 5 => change_form(&mut source, random, &[Use::Subscript]),
@@ -18,7 +18,7 @@ pub fn change(source: &Source, random: &mut Random) -> Option<Source> {
         8 => change_form(&mut source, random, &[Use::Literal]),
         9 => change_form(&mut source, random, &[Use::Guard]),
         10 => change_name(&mut source, random),
-        11 => regroup(&mut source, random),
+        11 | 12 => regroup(&mut source, random),
         _ => change_target(&mut source, random),
     };
     (changed && source.fits()).then_some(source)
