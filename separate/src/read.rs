@@ -12,10 +12,10 @@ use crate::tables::{self, Array, Tables};
 
 pub const MARK: [u8; 3] = *b"ALP";
 
-/// The version in which no operator is marked.
-pub const UNMARKED: u16 = 1;
-/// The version in which operators may be marked.
-pub const MARKS: u16 = 2;
+/// Of files in which no operator is marked.
+pub const FIRST_VERSION: u16 = 1;
+/// Of files in which operators may be marked.
+pub const SECOND_VERSION: u16 = 2;
 
 /// The code bytes of a file.
 pub mod code {
@@ -152,7 +152,7 @@ impl<'a> Reader<'a> {
         Question::Mark.ask(mark == MARK, place)?;
         let place = self.place;
         let version = u16::from_le_bytes(self.field()?);
-        Question::Version.ask([UNMARKED, MARKS].contains(&version), place)?;
+        Question::Version.ask([FIRST_VERSION, SECOND_VERSION].contains(&version), place)?;
         self.program.version = version;
         Ok(())
     }
@@ -160,7 +160,7 @@ impl<'a> Reader<'a> {
     fn operators(&mut self) -> Result<(), Refusal> {
         let count = self.asked_byte(Question::OperatorTable, tables::operator_count_allowed)?;
         let allowed = match self.program.version {
-            UNMARKED => tables::arity_allowed,
+            FIRST_VERSION => tables::arity_allowed,
             _ => tables::operator_allowed,
         };
         for _ in 0..count {

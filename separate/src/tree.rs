@@ -64,7 +64,7 @@ impl Declaration {
 
 #[derive(Clone, Debug, Default, PartialEq, Eq)]
 pub struct Source {
-    /// Nothing where it is the one that `least_version` gives.
+    /// Where it is not said it is the one that `least_version` gives.
     pub version: Option<u16>,
     /// The byte of each operator.
     pub operators: Vec<u8>,
@@ -238,9 +238,9 @@ impl Source {
     /// The first version that admits the operators.
     pub fn least_version(&self) -> u16 {
         if self.operators.contains(&tables::MARKED) {
-            read::MARKS
+            read::SECOND_VERSION
         } else {
-            read::UNMARKED
+            read::FIRST_VERSION
         }
     }
 

@@ -58,6 +58,11 @@ fn programs() -> Vec<(Vec<u8>, Vec<u8>, &'static str)> {
         (L.to_vec(), b"ALX".to_vec(), "refused right 4 0"),
         (L.to_vec(), asm("array A out [1]"), "refused both 22 0"),
         (asm("op f/1 array A out [1]"), asm("op f/2 array A out [1]"), "refused both 23 0"),
+        (
+            asm("op f/2* array A inout [3] A[0] = f(f(A[1], A[2]), A[0])"),
+            asm("op f/2* array A inout [3] A[0] = f(A[0], f(A[2], A[1]))"),
+            "equal 3",
+        ),
         (terms.clone(), terms, "refused both 24 0"),
         (L.to_vec(), vec![0; 16_385], "refused right 2 0"),
     ]
@@ -144,7 +149,7 @@ fn lists_leave_zeros_in_work_memory_and_are_only_read() {
         assert!(lent.0[2..].iter().flatten().all(|&word| word == 0), "{line}");
         compared += 1;
     }
-    assert_eq!(compared, 5);
+    assert_eq!(compared, 6);
 }
 
 #[test]

@@ -282,7 +282,7 @@ impl ListPairs {
     }
 
     /// One of the operators that are wanted, by its update and place.
-    fn operator(
+    fn find_operator(
         &mut self,
         parts: &Parts,
         wanted: impl Fn(u8, &[Record]) -> bool,
@@ -299,14 +299,14 @@ impl ListPairs {
 
     fn change_arguments(&mut self, parts: &mut Parts) {
         let unmarked = |operator, _: &[Record]| operator != MARKED && arity(operator) > 1;
-        if let Some((update, at)) = self.operator(parts, unmarked) {
+        if let Some((update, at)) = self.find_operator(parts, unmarked) {
             swap_arguments(&parts.tables, &mut parts.updates[update], at);
         }
     }
 
     fn regroup(&mut self, parts: &mut Parts) {
         let twice = |operator, records: &[Record]| arity(operator) == 2 && records[0] == records[1];
-        if let Some((update, at)) = self.operator(parts, twice) {
+        if let Some((update, at)) = self.find_operator(parts, twice) {
             regroup(&parts.tables, &mut parts.updates[update], at);
         }
     }

@@ -2,7 +2,7 @@
 
 use super::{Random, ATTEMPTS};
 use crate::limits::OPERATOR_NESTING;
-use crate::read::MARKS;
+use crate::read::SECOND_VERSION;
 use crate::tables::{arity, Role, MARKED};
 use crate::tree::{encode, Declaration, Expression, Form, Guard, Item, Loop, Source, Statement};
 use crate::work::Work;
@@ -27,7 +27,7 @@ fn attempt(random: &mut Random) -> Source {
     let items = maker.program();
     let (operators, arrays) = (maker.operators, maker.arrays);
     // Without a mark too.
-    let version = random.chance(10).then_some(MARKS);
+    let version = random.chance(10).then_some(SECOND_VERSION);
     Source { version, operators, arrays, items }
 }
 

@@ -4,7 +4,7 @@
 //! they break no dependence, which is left to a comparison to find out.
 
 use super::Random;
-use crate::read::MARKS;
+use crate::read::SECOND_VERSION;
 use crate::tables::{Role, MARKED};
 use crate::tree::{
     each_form, each_node, each_statement, Declaration, Expression, Form, Guard, Item, Loop, Source,
@@ -420,8 +420,8 @@ pub fn swap_arguments(source: &Source, random: &mut Random) -> Option<Source> {
 
 /// The other version, where no operator is marked.
 fn other_version(source: &Source, _: &mut Random) -> Option<Source> {
-    let version = if source.version.is_some() { None } else { Some(MARKS) };
-    (source.least_version() != MARKS).then(|| Source { version, ..source.clone() })
+    let version = if source.version.is_some() { None } else { Some(SECOND_VERSION) };
+    (source.least_version() != SECOND_VERSION).then(|| Source { version, ..source.clone() })
 }
 
 /// The rounds the other way round.
