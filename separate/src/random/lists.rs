@@ -554,3 +554,29 @@ impl<'a> ListMaker<'a> {
         [*self.random.pick(&[code::LITERAL, code::CONSTANT]), value, 0]
     }
 }
+
+#[cfg(test)]
+mod tests {
+    use super::*;
+
+    /// With a = g(1), b = 2 and c = 3, and with a = 1, b = g(2) and c = 3.
+    #[test]
+    fn arguments_are_moved_whole() {
+        let tables = tables_of(&[2, 1], &[]);
+        let [f, g] = [0, 1].map(|number| [code::OPERATOR, number, 0]);
+        let [one, two, three] = [1, 2, 3].map(literal);
+        for (left, right) in [
+            (vec![f, f, g, one, two, three], vec![f, g, one, f, two, three]),
+            (vec![f, f, one, g, two, three], vec![f, one, f, g, two, three]),
+        ] {
+            let mut records = left;
+            regroup(&tables, &mut records, 0);
+            assert_eq!(records, right);
+        }
+        let mut records = vec![f, g, one, f, two, three];
+        swap_arguments(&tables, &mut records, 0);
+        assert_eq!(records, [f, f, two, three, g, one]);
+        swap_arguments(&tables, &mut records, 1);
+        assert_eq!(records, [f, f, three, two, g, one]);
+    }
+}
