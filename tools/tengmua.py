@@ -39,6 +39,9 @@ One line goes to standard output:
   differs A E     cell E of array A is the first that some content and meaning tell apart                      status 1
   refused S K P   question K has a "no" for side S (left, right, both or input) at place P                     status 2
 
+Of an operator that is marked (`op NAME/2*` in a text) only meanings count that give the same result for both orders of its
+arguments.
+
 Status 3: no reply, nothing on standard output, and a line on standard error that says why. Standard error also explains a
 reply: on `differs` the element with its subscripts, on `refused` the question and, for a text, the line and column.
 

@@ -6,7 +6,8 @@
  * stays below 128 KB.
  *
  * What each reply means is in docs/FORMAT.md: "equal" says that both programs leave the same value in each compared element for every
- * starting content and every meaning of the operators and constants. The promises are crates/cabi/src/lib.rt's. */
+ * starting content and every meaning of the operators and constants in which each marked operator gives the same result for both
+ * orders of its arguments. The promises are crates/cabi/src/lib.rt's. */
 #ifndef TENGMUA_H
 #define TENGMUA_H
 
