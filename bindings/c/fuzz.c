@@ -176,9 +176,11 @@ static uint8_t left_bytes[MOST_BYTES], right_bytes[MOST_BYTES];
 static uint32_t left_words[MOST_WORDS], right_words[MOST_WORDS];
 static size_t lengths[2];
 
-static uint8_t small_byte(void) { return (uint8_t)(below(4) ? below(20) : draw()); }
+#define MARKED 0x82 /* an operator of two arguments that may swap */
 
-/* Four ways: random bytes; such behind a right mark and version; two programs of the source with a few bytes changed, or as they
+static uint8_t small_byte(void) { return (uint8_t)(below(4) ? below(20) : below(4) ? draw() : MARKED); }
+
+/* Four ways: random bytes; such behind ALP and a version; two programs of the source with a few bytes changed, or as they
  * are. */
 static void make_programs_from(void (*source)(uint8_t *, uint8_t *, size_t, size_t *), size_t way) {
     if (way >= 2) {
@@ -196,14 +198,14 @@ static void make_programs_from(void (*source)(uint8_t *, uint8_t *, size_t, size
         lengths[side] = below(below(8) ? 200 : MOST_BYTES);
         for (size_t i = 0; i < lengths[side]; i++)
             bytes[i] = way ? small_byte() : (uint8_t)draw();
-        if (way && lengths[side] >= 4)
-            memcpy(bytes, "ALP\1", 4);
+        if (way && lengths[side] >= 5)
+            memcpy(bytes, below(2) ? "ALP\1" : "ALP\2", 5);
     }
 }
 
 static void make_programs(void) { make_programs_from(twin_programs, below(4)); }
 
-static uint32_t small_word(void) { return (uint32_t)(below(4) ? below(24) : draw()); }
+static uint32_t small_word(void) { return (uint32_t)(below(4) ? below(24) : below(4) ? draw() : MARKED); }
 
 /* Random words, all or few of them; or two lists, often with a few words changed. The lengths are those of the slices. */
 static void make_lists(void) {

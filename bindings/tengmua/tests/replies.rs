@@ -20,6 +20,43 @@ fn examples_have_their_lines() {
     assert_eq!(line(example!("jacobi"), example!("jacobi-tiled")), "equal 32");
     assert_eq!(line(example!("jacobi"), example!("jacobi-wrong-skew")), "differs 0 2");
     assert_eq!(line(example!("copy"), example!("outside")), "refused right 16 22");
+    assert_eq!(line(example!("blur-marked"), example!("blur-swapped")), "equal 400");
+    assert_eq!(line(example!("blur-marked"), example!("blur-regrouped")), "differs 1 0");
+    assert_eq!(line(example!("blur-marked"), example!("blur")), "refused both 23 0");
+}
+
+/// Both versions meet; a third is refused, and so is a mark in the first.
+#[test]
+fn versions_of_a_file() {
+    let mut work = Work::default();
+    let mut line = |left: &[u8], right: &[u8]| work.programs(left, right, ALL).to_string();
+    let with = |program: &[u8], version| [&program[..3], &[version], &program[4..]].concat();
+    let copy = example!("copy");
+    assert_eq!(line(copy, &with(copy, 2)), "equal 2");
+    assert_eq!(line(&with(copy, 3), copy), "refused left 5 3");
+    let (unmarked, marked) = (example!("blur"), example!("blur-marked"));
+    assert_eq!((unmarked[3], marked[3], marked[6]), (1, 2, 0x82));
+    assert_eq!(line(&with(unmarked, 2), unmarked), "equal 400");
+    assert_eq!(line(unmarked, &with(marked, 1)), "refused right 6 6");
+}
+
+/// A list has its operators' marks, and no version.
+#[test]
+fn marks_of_a_list() {
+    let mut work = Work::default();
+    let [mut left, mut right] = [vec![7; LIST_WORDS], vec![9; LIST_WORDS]];
+    assert_eq!(unroll(example!("blur-marked"), &mut left), Ok(400));
+    assert_eq!(unroll(example!("blur-swapped"), &mut right), Ok(400));
+    assert_eq!([left[1], right[1]], [0x82; 2]);
+    assert_eq!(work.lists(&left, &right, ALL), Reply::Equal(400));
+    right[1] = 2;
+    let other_marks = Refusal { side: Side::Both, question: 23, place: 0 };
+    assert_eq!(work.lists(&left, &right, ALL), Reply::Refused(other_marks));
+    left[1] = 2;
+    assert_eq!(work.lists(&left, &right, ALL), Reply::Differs(1, 0));
+    left[1] = 0x83;
+    let no_list = Refusal { side: Side::Left, question: 26, place: 0 };
+    assert_eq!(check_list(&left), Err(no_list));
 }
 
 #[test]

@@ -1,6 +1,8 @@
 //! smt FOLDER [SEED]: writes each pair of the workloads that is not refused as two QF_UF queries, FOLDER/WORKLOAD-PAIR.named.smt2
 //! (a constant and an equation for each update) and .inlined.smt2 (a definition for each). `unsat` is "equal": no contents and no
-//! meaning tell the unrolled programs apart. The first line has the verdict that is expected and the workload's name.
+//! meaning tell the unrolled programs apart. That the arguments of a marked operator may swap is an equation for each of its
+//! applications: a meaning in which these hold can be changed elsewhere into one that respects the marks, so the verdict is the
+//! same. The first line has the verdict that is expected and the workload's name.
 
 use std::collections::BTreeSet;
 use std::fmt::Write;
@@ -9,7 +11,7 @@ use std::path::Path;
 use beside::workloads::{all, Pair};
 use separate::limits::LIST_WORDS;
 use separate::list::{code, decode, List, Record};
-use separate::tables::Tables;
+use separate::tables::{arity, Tables, MARKED};
 use tengmua::{Reply, Work, ALL};
 
 /// One side's updates as text, and what each cell holds last.
@@ -33,6 +35,8 @@ impl Leaves {
 
 struct Query {
     leaves: Leaves,
+    /// An equation for each application of a marked operator.
+    swaps: BTreeSet<String>,
     named: bool,
 }
 
@@ -51,12 +55,14 @@ impl Query {
             code::LITERAL => self.leaves.leaf(format!("n{second}")),
             code::CONSTANT => self.leaves.leaf(format!("c{second}")),
             _ => {
-                let mut text = format!("(f{second}");
-                for _ in 0..tables.operators()[second as usize] {
-                    let argument = self.expression(side, tables, records);
-                    write!(text, " {argument}").expect("a string takes all");
+                let operator = tables.operators()[second as usize];
+                let arguments: Vec<_> =
+                    (0..arity(operator)).map(|_| self.expression(side, tables, records)).collect();
+                let text = format!("(f{second} {})", arguments.join(" "));
+                if let (MARKED, [one, other]) = (operator, &arguments[..]) {
+                    self.swaps.insert(format!("(assert (= {text} (f{second} {other} {one})))\n"));
                 }
-                text + ")"
+                text
             }
         }
     }
@@ -94,18 +100,20 @@ impl Query {
 }
 
 fn query(left: &List, right: &List, named: bool) -> String {
-    let mut query = Query { leaves: Leaves::default(), named };
+    let mut query = Query { leaves: Leaves::default(), swaps: BTreeSet::new(), named };
     let (one, other) = (query.side('l', left), query.side('r', right));
     let goal = query.goal(&left.tables, &one, &other);
     let mut text = String::from("(set-logic QF_UF)\n(declare-sort S 0)\n");
-    for (number, &arity) in left.tables.operators().iter().enumerate() {
-        let sorts = vec!["S"; usize::from(arity)].join(" ");
+    for (number, &operator) in left.tables.operators().iter().enumerate() {
+        let sorts = vec!["S"; usize::from(arity(operator))].join(" ");
         text += &format!("(declare-fun f{number} ({sorts}) S)\n");
     }
     for leaf in &query.leaves.0 {
         text += &format!("(declare-const {leaf} S)\n");
     }
-    text + &one.lines + &other.lines + &goal + "(check-sat)\n"
+    text += &(one.lines + &other.lines);
+    text.extend(query.swaps);
+    text + &goal + "(check-sat)\n"
 }
 
 fn list_of(program: &[u8]) -> Option<Vec<u32>> {
