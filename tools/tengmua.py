@@ -76,6 +76,7 @@ KEPT = os.path.join(ROOT, 'target', 'tengmua')
 PROGRAM = 16384  # bytes of the longest program
 FRAMED = 32771  # bytes of standard input that decide the reply
 STATEMENT = 1  # the code byte of a statement
+MARKED = 0x82  # the byte of an operator of two arguments that may swap
 TEXT = 1 << 20  # bytes of the longest text that is taken
 NO_TEXT = re.compile(rb'[\x00-\x08\x0b\x0c\x0e-\x1f\x7f]')
 NUMBER = rb'(0|[1-9][0-9]*)'
@@ -596,6 +597,11 @@ def extents_of(data):
     return arrays
 
 
+def operators_of(data):
+    """What stands behind the name of each operator of a program that was read, in a text's declaration of it."""
+    return ['/2*' if byte == MARKED else f'/{byte}' for byte in data[6:6 + data[5]]]
+
+
 def element(name, extents, cell):
     subscripts = []
     for extent in reversed(extents):
@@ -626,6 +632,9 @@ def explain_refused(side, number, place, files, places):
         what, word = ('role', 'array') if number == 22 else ('arity', 'operator')
         for file in files:
             name, where = Names(file).declared(what, place)
+            if number == 23:
+                behind = operators_of(file.bytes)[place:]
+                name = name + behind[0] if behind else None
             say(f'{where}: {word} {place}' + (f', {name}' if name else ' is not there'))
     say(f'question {number}: {question}')
 
