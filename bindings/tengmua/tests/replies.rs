@@ -49,6 +49,9 @@ fn marks_of_a_list() {
     assert_eq!(unroll(example!("blur-swapped"), &mut right), Ok(400));
     assert_eq!([left[1], right[1]], [0x82; 2]);
     assert_eq!(work.lists(&left, &right, ALL), Reply::Equal(400));
+    // The first updates alone, of 17 nodes each: all of them have too many terms without the mark.
+    [&mut left, &mut right].map(|list| list[98 + 3 * 18..].fill(0));
+    assert_eq!(work.lists(&left, &right, ALL), Reply::Equal(400));
     right[1] = 2;
     let other_marks = Refusal { side: Side::Both, question: 23, place: 0 };
     assert_eq!(work.lists(&left, &right, ALL), Reply::Refused(other_marks));
