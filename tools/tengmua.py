@@ -580,7 +580,8 @@ class Names:
         """Name and place in the text of a declared array or operator; without a text the names of `separate dis`."""
         rows = [row for row in self.rows if row[3].startswith(what + ' ')]
         if self.file.text is None:
-            return (chr(ord('A') + number) if what == 'role' else f'f{number}'), shown(self.file.name)
+            known, name = (extents_of, chr(ord('A') + number)) if what == 'role' else (operators_of, f'f{number}')
+            return (name if number < len(known(self.file.bytes)) else None), shown(self.file.name)
         if number >= len(rows):
             return None, shown(self.file.name)
         return rows[number][3].split(' ')[1], f'{shown(self.file.name)}: line {rows[number][1]}, column {rows[number][2]}'
@@ -632,9 +633,8 @@ def explain_refused(side, number, place, files, places):
         what, word = ('role', 'array') if number == 22 else ('arity', 'operator')
         for file in files:
             name, where = Names(file).declared(what, place)
-            if number == 23:
-                behind = operators_of(file.bytes)[place:]
-                name = name + behind[0] if behind else None
+            if name and number == 23:
+                name += operators_of(file.bytes)[place]
             say(f'{where}: {word} {place}' + (f', {name}' if name else ' is not there'))
     say(f'question {number}: {question}')
 
