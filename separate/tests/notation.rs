@@ -79,8 +79,29 @@ fn version_is_no_reserved_word() {
     assert_eq!(asm(&text("version")), asm(&text("A")));
     assert_eq!(asm(&format!("# 1\n\nversion 0x2 {}", text("version")))[3..5], [2, 0]);
     assert_eq!(error("version[0] = 1"), (1, 1, "array 'version' is not declared".to_string()));
-    let late = "array A in [1] version 2";
-    assert_eq!(error(late), (1, 16, "array 'version' is not declared".to_string()));
+}
+
+/// Neither a version nor a statement.
+#[test]
+fn a_version_out_of_place() {
+    let message = "'version NUMBER' stands once, before all declarations";
+    check_errors(
+        "",
+        &[
+            (1, 1, "version", message),
+            (1, 1, "version two", message),
+            (1, 1, "version = 2", message),
+            (1, 11, "version 2 version 1 array A in [1]", message),
+            (2, 1, "version 2\nversion\n", message),
+            (1, 16, "array A in [1] version 2", message),
+            (2, 3, "op f/2*\n  version 2\narray A in [1]", message),
+            (2, 1, "array A out [1] A[0] = 1\nversion 2", message),
+            (1, 34, "array A out [1] for i = 0 to 1 { version 2 }", message),
+            (1, 16, "array A in [1] version[0] = 1", "array 'version' is not declared"),
+            (1, 24, "array A out [1] A[0] = version[0]", "array 'version' is not declared"),
+            (1, 31, "array version out [1] version 2", "expected '[', found 2"),
+        ],
+    );
 }
 
 #[test]

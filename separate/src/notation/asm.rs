@@ -136,6 +136,12 @@ impl Parser {
         matches!(self.peek(), Token::Name(next) if next == word)
     }
 
+    /// Whether the sign stands behind the next token.
+    fn is_followed_by(&self, sign: &str) -> bool {
+        let behind = self.tokens.get(self.at + 1);
+        behind.is_some_and(|(token, _)| matches!(token, Token::Sign(next) if *next == sign))
+    }
+
     /// Takes the sign if it comes next.
     fn take_sign(&mut self, sign: &str) -> bool {
         let found = self.is_sign(sign);
@@ -436,6 +442,9 @@ impl Parser {
                     format!("'{name}' is an operator: it is applied as {name}(..)")
                 }
                 Some(kind) => format!("'{name}' is {kind}, not an array"),
+                None if name == "version" && !self.is_followed_by("[") => {
+                    "'version NUMBER' stands once, before all declarations".to_string()
+                }
                 None => format!("array '{name}' is not declared"),
             });
         };
