@@ -76,6 +76,7 @@ KEPT = os.path.join(ROOT, 'target', 'tengmua')
 PROGRAM = 16384  # bytes of the longest program
 FRAMED = 32771  # bytes of standard input that decide the reply
 STATEMENT = 1  # the code byte of a statement
+LOCAL = 3  # the byte of the role of arrays that are not compared
 MARKED = 0x82  # the byte of an operator of two arguments that may swap
 TEXT = 1 << 20  # bytes of the longest text that is taken
 NO_TEXT = re.compile(rb'[\x00-\x08\x0b\x0c\x0e-\x1f\x7f]')
@@ -577,23 +578,24 @@ class Names:
         return f'{shown(self.file.name)}: {where}'
 
     def declared(self, what, number):
-        """Name and place in the text of a declared array or operator; without a text the names of `separate dis`."""
-        rows = [row for row in self.rows if row[3].startswith(what + ' ')]
-        if self.file.text is None:
-            known, name = (extents_of, chr(ord('A') + number)) if what == 'role' else (operators_of, f'f{number}')
-            return (name if number < len(known(self.file.bytes)) else None), shown(self.file.name)
-        if number >= len(rows):
+        """Name and place in the text of a declared array, no local, or operator; without a text the names of `separate dis`."""
+        known, name = (extents_of, chr(ord('A') + number)) if what == 'role' else (operators_of, f'f{number}')
+        if number >= len(known(self.file.bytes)):
             return None, shown(self.file.name)
+        if self.file.text is None:
+            return name, shown(self.file.name)
+        rows = [row for row in self.rows if row[3].startswith(what + ' ')]
         return rows[number][3].split(' ')[1], f'{shown(self.file.name)}: line {rows[number][1]}, column {rows[number][2]}'
 
 
 def extents_of(data):
-    """The extents of each array of a program that was read."""
+    """The extents of each array of a program that was read, without the locals, which come last."""
     at = 6 + data[5]
     arrays = []
     for _ in range(data[at]):
-        dimensions = data[at + 2]
-        arrays.append(struct.unpack_from(f'<{dimensions}H', data, at + 3))
+        role, dimensions = data[at + 1:at + 3]
+        if role != LOCAL:
+            arrays.append(struct.unpack_from(f'<{dimensions}H', data, at + 3))
         at += 2 + 2 * dimensions
     return arrays
 
