@@ -2,7 +2,9 @@
 
 use std::collections::BTreeMap;
 
+use separate::compare::ALL;
 use separate::entries;
+use separate::list::{decode, Record};
 use separate::random::{Explanations, ListPairs, Pairs};
 use separate::stream::{inputs, lists, write_input, write_lists, Cut};
 use separate::tables::MARKED;
@@ -22,6 +24,14 @@ fn histogram(replies: impl Iterator<Item = Reply>) -> BTreeMap<String, usize> {
     let mut counts = BTreeMap::new();
     replies.for_each(|reply| *counts.entry(kind(reply)).or_insert(0) += 1);
     counts
+}
+
+/// Each of these kinds was counted at least so often.
+fn assert_counts(counts: &BTreeMap<String, usize>, wanted: &[(&str, usize)]) {
+    for &(kind, least) in wanted {
+        let count = counts.get(kind).copied().unwrap_or(0);
+        assert!(count >= least, "{kind}: {count}, not {least}, in {counts:?}");
+    }
 }
 
 #[test]
@@ -167,15 +177,16 @@ fn marks_and_versions_in_four_thousand_pairs() {
             count(format!("{}, without marks {}", kind(reply), kind(without)));
         }
     }
-    for (kind, least) in [
-        ("equal, two versions", 50),
-        ("differs, two versions", 20),
-        ("equal, without marks differs", 80),
-        ("equal, without marks refused both 24", 5),
-        ("refused both 23, without marks equal", 8),
-    ] {
-        assert!(counts.get(kind).is_some_and(|&count| count >= least), "{kind} in {counts:?}");
-    }
+    assert_counts(
+        &counts,
+        &[
+            ("equal, two versions", 50),
+            ("differs, two versions", 20),
+            ("equal, without marks differs", 80),
+            ("equal, without marks refused both 24", 5),
+            ("refused both 23, without marks equal", 8),
+        ],
+    );
 }
 
 #[test]
@@ -185,18 +196,19 @@ fn two_thousand_list_pairs_cover_everything() {
         .take(2_000)
         .map(|pair| work.lists(&pair.left.slice(), &pair.right.slice(), pair.mask));
     let counts = histogram(replies);
-    for (kind, least) in [
-        ("equal", 400),
-        ("differs", 200),
-        ("refused left 26", 100),
-        ("refused right 26", 100),
-        ("refused both 22", 15),
-        ("refused both 23", 10),
-        ("refused both 24", 10),
-        ("refused both 25", 40),
-    ] {
-        assert!(counts.get(kind).is_some_and(|&count| count >= least), "{kind} in {counts:?}");
-    }
+    assert_counts(
+        &counts,
+        &[
+            ("equal", 400),
+            ("differs", 200),
+            ("refused left 26", 100),
+            ("refused right 26", 100),
+            ("refused both 22", 15),
+            ("refused both 23", 10),
+            ("refused both 24", 10),
+            ("refused both 25", 40),
+        ],
+    );
     assert_eq!(counts.len(), 8, "{counts:?}");
 }
 
@@ -222,13 +234,14 @@ fn marks_in_four_thousand_list_pairs() {
             *counts.entry(kinds).or_insert(0usize) += 1;
         }
     }
-    for (kind, least) in [
-        ("equal, without marks differs", 80),
-        ("equal, without marks refused both 24", 5),
-        ("refused both 23, without marks equal", 8),
-    ] {
-        assert!(counts.get(kind).is_some_and(|&count| count >= least), "{kind} in {counts:?}");
-    }
+    assert_counts(
+        &counts,
+        &[
+            ("equal, without marks differs", 80),
+            ("equal, without marks refused both 24", 5),
+            ("refused both 23, without marks equal", 8),
+        ],
+    );
 }
 
 #[test]
@@ -270,4 +283,209 @@ fn right_refusals_have_an_accepted_left() {
         }
     }
     assert!(seen > 60, "{seen}");
+}
+
+/// The program of a pair that its reply refuses, with question and place.
+fn refused_program(input: &[u8], reply: Reply) -> Option<(&[u8], u8, usize)> {
+    let Reply::Refused { side, number, place } = reply else { return None };
+    let (left, right) = separate::input::split(input).ok()?;
+    match side {
+        Side::Left => Some((left, number, place)),
+        Side::Right => Some((right, number, place)),
+        _ => None,
+    }
+}
+
+/// A program of version 2 without a mark.
+fn needs_no_mark(program: &[u8]) -> bool {
+    program[3..5] == [2, 0] && !program[6..][..usize::from(program[5])].contains(&MARKED)
+}
+
+/// A mark in version 1 that version 2 would not have either stands for an operator of another arity.
+#[test]
+fn refused_versions_and_marks_in_four_thousand_pairs() {
+    let mut work = Work::default();
+    let mut counts = BTreeMap::new();
+    let mut count = |kind: &str| *counts.entry(kind.to_string()).or_insert(0usize) += 1;
+    for input in Pairs::new(1).take(4_000) {
+        let reply = work.input(&input);
+        let Some((program, number, place)) = refused_program(&input, reply) else { continue };
+        match (number, program.get(place)) {
+            (5, Some(1 | 2)) => count("no version but for the second byte"),
+            (5, _) if program[place + 1] == 0 => count("no version but for the first byte"),
+            (6, Some(&MARKED)) if program[3] == 1 => {
+                let mut second = program.to_vec();
+                second[3] = 2;
+                let is_read = separate::read_program(&second).is_ok();
+                count(if is_read { "a mark in version 1" } else { "a mark for another arity" });
+            }
+            (7.., Some(&MARKED)) => count("a mark's byte elsewhere"),
+            (7..=20, _) if needs_no_mark(program) => count("refused in version 2 without marks"),
+            _ => {}
+        }
+    }
+    assert_counts(
+        &counts,
+        &[
+            ("no version but for the first byte", 12),
+            ("no version but for the second byte", 10),
+            ("a mark in version 1", 3),
+            ("a mark for another arity", 3),
+            ("a mark's byte elsewhere", 10),
+            ("refused in version 2 without marks", 40),
+        ],
+    );
+}
+
+#[test]
+fn version_2_without_marks_in_two_thousand_pairs() {
+    let mut work = Work::default();
+    let mut counts = BTreeMap::new();
+    for input in Pairs::new(1).take(2_000) {
+        let reply = work.input(&input);
+        if matches!(reply, Reply::Refused { number: ..22, .. }) {
+            continue;
+        }
+        let (left, right) = separate::input::split(&input).unwrap();
+        let sides = usize::from(needs_no_mark(left)) + usize::from(needs_no_mark(right));
+        *counts.entry(format!("{}, on {sides}", kind(reply))).or_insert(0) += 1;
+    }
+    for kind in ["equal", "differs"] {
+        let [one, both] = [1, 2].map(|sides| format!("{kind}, on {sides}"));
+        assert_counts(&counts, &[(&one, 12), (&both, 15)]);
+    }
+}
+
+/// Words that are a mark's but for some bits.
+#[test]
+fn near_marks_in_eight_thousand_list_pairs() {
+    let mut work = Work::default();
+    let mut counts = BTreeMap::new();
+    for pair in ListPairs::new(1).take(8_000) {
+        let (left, right) = (pair.left.slice(), pair.right.slice());
+        let list = match work.lists(&left, &right, pair.mask) {
+            Reply::Refused { side: Side::Left, number: 26, .. } => &left,
+            Reply::Refused { side: Side::Right, number: 26, .. } => &right,
+            _ => continue,
+        };
+        let operators = list[0].min(16) as usize;
+        for word in &list[1..=operators] {
+            *counts.entry(format!("{word:x}")).or_insert(0) += 1;
+        }
+    }
+    let near = ["80", "83", "42", "182", "8200", "10082", "80000082"];
+    assert_counts(&counts, &near.map(|word| (word, 4)));
+}
+
+/// The operators of the nests, by the arrays that they alone have.
+#[test]
+fn marks_in_a_thousand_explanations() {
+    let mut counts = BTreeMap::new();
+    for record in Explanations::new(1).take(1_000) {
+        let (_, _, left, right) = lent(&record);
+        for program in [left, right] {
+            let [_, _, _, version, 0, 1, operator, 3 | 4, 0, 1, 8, 0, 1 | 2, 1, 40, 0, ..] =
+                program
+            else {
+                continue;
+            };
+            *counts.entry(format!("{operator:02x} in version {version}")).or_insert(0) += 1;
+        }
+    }
+    assert_counts(&counts, &[("02 in version 1", 300), ("82 in version 2", 300)]);
+}
+
+/// The list with a mark on each operator of two arguments.
+fn all_marked(list: &[u32]) -> Vec<u32> {
+    let mut list = list.to_vec();
+    list[1..17].iter_mut().filter(|word| **word == 2).for_each(|word| *word = u32::from(MARKED));
+    list
+}
+
+/// The updates of a list, each with the nodes of its expression in no order.
+fn scattered(list: &[u32]) -> Vec<Vec<Record>> {
+    let scatter = |(update, expression): (&Record, &[Record])| {
+        let mut records = expression.to_vec();
+        records.sort();
+        records.insert(0, *update);
+        records
+    };
+    decode(list).unwrap().updates().map(scatter).collect()
+}
+
+/// The same, but the updates are in no order either.
+fn all_scattered(list: &[u32]) -> Vec<Vec<Record>> {
+    let mut updates = scattered(list);
+    updates.sort();
+    updates
+}
+
+/// What two lists that differ differ in, if it is the order of two arguments, or the grouping alone:
+/// with operators of at most two arguments, nothing else that differs keeps all nodes.
+fn difference(
+    work: &mut Work,
+    [left, right]: [&[u32]; 2],
+    mask: u16,
+    nodes: fn(&[u32]) -> Vec<Vec<Record>>,
+) -> Option<String> {
+    let marks = match [2, u32::from(MARKED)].map(|word| left[1..17].contains(&word)) {
+        [_, false] => "none marked",
+        [true, true] => "some marked",
+        [false, true] => "all marked",
+    };
+    if matches!(work.lists(&all_marked(left), &all_marked(right), mask), Reply::Equal { .. }) {
+        return Some(format!("arguments, {marks}"));
+    }
+    let few = |&word: &u32| matches!(word, 0..=2 | 130);
+    let regrouped = left[1..17].iter().all(few) && nodes(left) == nodes(right);
+    regrouped.then(|| format!("grouping, {marks}"))
+}
+
+#[test]
+fn orders_and_groupings_in_four_thousand_pairs() {
+    let mut work = Work::default();
+    let mut counts = BTreeMap::new();
+    for input in Pairs::new(1).take(4_000) {
+        if !matches!(work.input(&input), Reply::Differs { .. }) {
+            continue;
+        }
+        let (left, right) = separate::input::split(&input).unwrap();
+        let [left, right] = [left, right].map(|program| work.unroll(program).unwrap().to_vec());
+        if let Some(kind) = difference(&mut work, [&left, &right], ALL, scattered) {
+            *counts.entry(kind).or_insert(0) += 1;
+        }
+    }
+    assert_counts(
+        &counts,
+        &[
+            ("arguments, some marked", 5),
+            ("arguments, none marked", 30),
+            ("grouping, all marked", 9),
+            ("grouping, none marked", 12),
+        ],
+    );
+}
+
+#[test]
+fn orders_and_groupings_in_eight_thousand_list_pairs() {
+    let mut work = Work::default();
+    let mut counts = BTreeMap::new();
+    for pair in ListPairs::new(1).take(8_000) {
+        let (left, right) = (pair.left.slice(), pair.right.slice());
+        if !matches!(work.lists(&left, &right, pair.mask), Reply::Differs { .. }) {
+            continue;
+        }
+        if let Some(kind) = difference(&mut work, [&left, &right], pair.mask, all_scattered) {
+            *counts.entry(kind).or_insert(0) += 1;
+        }
+    }
+    assert_counts(
+        &counts,
+        &[
+            ("arguments, some marked", 4),
+            ("arguments, none marked", 30),
+            ("grouping, all marked", 3),
+            ("grouping, none marked", 3),
+        ],
+    );
 }
