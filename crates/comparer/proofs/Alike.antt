@@ -2,7 +2,7 @@
 use Prim.Native.Nat.{ℕ}
 use mathlib.Core.Path.{_≡_, refl, sym, ap, ap₂, _∙_}
 use mathlib.Core.List.{List, [], _∷_, _++_}
-use mathlib.Core.Bool.{Bool, true, false, _&&_, _||_, cond, and-eq-true-iff, or-assoc, or-false}
+use mathlib.Core.Bool.{Bool, true, false, _&&_, _||_, cond, true≢false, and-eq-true-iff, or-assoc, or-false}
 use Rattle.model.specs.Tables.{Array, arrayAt, starts}
 use Rattle.model.specs.Update.{Tree, Trees, Update, writes, written}
 use Rattle.model.specs.Update.Tree.{cell, number, constant, operator}
@@ -14,6 +14,17 @@ use Rattle.comparer.specs.Meaning.{Meaning, Content, valueOf, valuesOf, 
 pub written-snoc : (us : List Update) (u : Update) (a c : ℕ) → written (us ++ (u ∷ [])) a c ≡ written us a c || writes u a c
 written-snoc [] u a c = or-false (writes u a c)
 written-snoc (v ∷ us) u a c = ap (λ (b : Bool). writes v a c || b) (written-snoc us u a c) ∙ sym (or-assoc (writes v a c) (written us a c) (writes u a c))
+
+-- a cell that no update writes keeps what it held
+pub unwritten-after : {S : Type 0} (m : Meaning S) (us : List Update) (h : Content S) (a c : ℕ) → written us a c ≡ false → after m us h a c ≡ h a c
+unwritten-after m [] h a c e = refl
+unwritten-after {S} m (u ∷ us) h a c e = go (writes u a c) refl (written us a c) refl e (λ k f. unwritten-after m us k a c f)
+  where
+    go : (w : Bool) → writes u a c ≡ w → (v : Bool) → written us a c ≡ v → (w || v) ≡ false
+        → ((k : Content S) → written us a c ≡ false → after m us k a c ≡ k a c) → after m us (updated m h u) a c ≡ h a c
+    go true p v q f ih = absurd (true≢false f)
+    go false p true q f ih = absurd (true≢false f)
+    go false p false q f ih = ih (updated m h u) q ∙ rw p
 
 module _ {S : Type 0} (m : Meaning S) (xs : List Array) where
   -- the two contents agree on all that may be read after `done`

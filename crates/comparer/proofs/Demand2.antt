@@ -1,33 +1,49 @@
 -- Demand 2: what "equal" and "differs" say, for every starting content and every meaning that respects the marks.
-use Prim.Native.Nat.{ℕ, zero, suc, _+_, _≤_, _<_}
+use Prim.Native.Nat.{ℕ, zero, suc, _+_}
 use native.Mathlib.Omega.{arith}
 use mathlib.Core.Path.{_≡_, refl, sym, ap, ap₂, _∙_, subst}
 use mathlib.Core.Logic.{_⊎_, inl, inr, _↔_}
 use mathlib.Core.List.{List, [], _∷_}
-use mathlib.Core.Bool.{Bool, true, false, _&&_, _||_, cond, false≢true, true≢false, and-eq-true-iff, or-false}
+use mathlib.Core.Bool.{Bool, true, false, _&&_, _||_, not, cond, false≢true, true≢false, and-eq-true-iff, or-false}
 use lib.Dec.{eqb, leb}
-use borrow.Author.Tests.{eqb-true, leb-true, leb-false}
+use borrow.Author.Tests.{eqb-true}
 use Rattle.model.specs.Tables.{Array, arrayAt, starts, inside}
-use Rattle.model.specs.Update.{Tree, Listed}
+use Rattle.model.specs.Update.{Tree, Listed, written}
 use Rattle.model.specs.Update.Tree.{cell}
 use Rattle.model.specs.Reply.{Reply, equal, differs, refused, both, isRefused}
-use Rattle.terms.specs.Term.{termCount}
+use Rattle.terms.specs.Term.{alike, termCount}
 use Rattle.unroller.specs.Allowed.{localsLast, readAll}
-use Rattle.comparer.specs.Meaning.{after, free}
-use Rattle.comparer.specs.Match.{swapping, compared, comparedSize, firstDifference, agreeAt, writtenTerms, matched, sameTable, sameArray, nonLocal, operatorsReply, listsReply}
+use Rattle.comparer.specs.Meaning.{Meaning, Content, after, free}
+use Rattle.comparer.specs.Match.{swapping, given, comparedSize, firstDifference, agreeAt, writtenTerms, matched, sameArray, nonLocal, operatorsReply, listsReply}
 use Rattle.comparer.specs.Told.{Compared, Agree, Apart, Earlier, FirstApart, Told}
 use Rattle.comparer.proofs.Values.{after-law}
 use Rattle.comparer.proofs.Classes.{alike-value, classes, starting, classes-respect, same-class}
-use Rattle.comparer.proofs.Alike.{after-alike}
-use Rattle.comparer.proofs.First.{comparedIn, ElementAt, ElementNone, first-difference}
-use Rattle.comparer.proofs.SameTables.{sameArray-sound, tables-cases, non-local-role, started-shared, compared-shared}
+use Rattle.comparer.proofs.Alike.{unwritten-after, after-alike}
+use Rattle.comparer.proofs.First.{comparedIn, ElementAt, ElementNone, first-difference, same-place}
+use Rattle.comparer.proofs.SameTables.{sameArray-sound, tables-cases, non-local-role}
 
-le-or-lt : (m n : ℕ) → (m ≤ n) ⊎ (n < m)
-le-or-lt m n = go (leb m n) refl
-  where
-    go : (b : Bool) → leb m n ≡ b → (m ≤ n) ⊎ (n < m)
-    go true e = inl (leb-true m n e)
-    go false e = inr (leb-false m n e)
+-- two tests and a third
+both-and : (a b c : Bool) → (a && (b && c)) ≡ true → (b ≡ true) × (c ≡ true)
+both-and true b c e = and-eq-true-iff b c .0 e
+both-and false b c e = absurd (false≢true e)
+
+-- neither is true
+neither : (a b : Bool) → (a || b) ≡ false → (a ≡ false) × (b ≡ false)
+neither true b e = absurd (true≢false e)
+neither false b e = (refl, e)
+
+-- it is not the second
+first-true : (a b : Bool) → (a || b) ≡ true → b ≡ false → a ≡ true
+first-true true b e f = refl
+first-true false b e f = absurd (true≢false (sym e ∙ f))
+
+other-one : (b : Bool) → b ≡ not b → ⊥
+other-one true e = true≢false e
+other-one false e = false≢true e
+
+-- two values, and every operator gives one of them
+flat : Meaning Bool
+flat = record { operate = λ o xs. true; literal = λ z. true; named = λ n. true }
 
 -- what demand 2 rests on: every allowed list has it, and every list that a run gives
 pub record Sound (l : Listed) : Type 0 where
@@ -75,22 +91,64 @@ module _ (mask : ℕ) (l r : Listed) where
   same-role : Sound l → Sound r → Passed mask l r → (a : ℕ) → arrayAt (l .tables .arrays) a .role ≡ arrayAt (r .tables .arrays) a .role
   same-role p q y a = sym (non-local-role false (l .tables .arrays) (p .ordered) a) ∙ ap (λ (xs : List Array). arrayAt xs a .role) (y .arrays) ∙ non-local-role false (r .tables .arrays) (q .ordered) a
 
-  agree-true : Sound l → Sound r → Passed mask l r → (a e : ℕ) → Compared mask l a e → agreeAt l r a e ≡ true → Agree l r a e
-  agree-true p q y a e at s S m respects h k shared =
+  same-start : Sound l → Sound r → Passed mask l r → (a : ℕ) → starts (arrayAt (l .tables .arrays) a) ≡ starts (arrayAt (r .tables .arrays) a)
+  same-start p q y a = ap (λ (k : ℕ). eqb k 0 || eqb k 2) (same-role p q y a)
+
+  agree-true : Sound l → Sound r → Passed mask l r → (a e : ℕ) → agreeAt l r a e ≡ true → Agree l r a e
+  agree-true p q y a e s S m respects h k shared =
+      let t = both-and (given l a e) (given r a e) (alike (swapping l) (after free (l .updates) cell a e) (after free (r .updates) cell a e)) s in
       after-law m h (l .updates) a e
-      ∙ alike-value (swapping l) m respects h (after free (l .updates) cell a e) (after free (r .updates) cell a e) s
+      ∙ alike-value (swapping l) m respects h (after free (l .updates) cell a e) (after free (r .updates) cell a e) (t .1)
       ∙ sym (after-law m h (r .updates) a e)
-      ∙ after-alike m (r .tables .arrays) (r .updates) [] h k (λ b d f. shared b d (started-shared (arrayAt (l .tables .arrays) b) (rw (same-role p q y b) (sym (or-false (starts (arrayAt (r .tables .arrays) b))) ∙ f)))) (q .reads) a e
-      (λ f. shared a e (compared-shared mask a (arrayAt (l .tables .arrays) a) (and-eq-true-iff (compared mask a (arrayAt (l .tables .arrays) a)) (inside (l .tables .arrays) a e) .0 at .0)))
+      ∙ after-alike m (r .tables .arrays) (r .updates) [] h k (λ b d f. shared b d (same-start p q y b ∙ sym (or-false (starts (arrayAt (r .tables .arrays) b))) ∙ f)) (q .reads) a e
+      (λ f. shared a e (same-start p q y a ∙ first-true (starts (arrayAt (r .tables .arrays) a)) (written (r .updates) a e) (t .0) f))
 
   -- what the sides leave has the same value where terms are told by their classes: they are alike
-  classed : (a e : ℕ) → after (classes (swapping l)) (l .updates) (starting (swapping l)) a e ≡ after (classes (swapping l)) (r .updates) (starting (swapping l)) a e → agreeAt l r a e ≡ true
+  classed : (a e : ℕ) → after (classes (swapping l)) (l .updates) (starting (swapping l)) a e ≡ after (classes (swapping l)) (r .updates) (starting (swapping l)) a e → alike (swapping l) (after free (l .updates) cell a e) (after free (r .updates) cell a e) ≡ true
   classed a e g =
       same-class (swapping l) (after free (l .updates) cell a e) (after free (r .updates) cell a e)
       (sym (after-law (classes (swapping l)) (starting (swapping l)) (l .updates) a e) ∙ g ∙ after-law (classes (swapping l)) (starting (swapping l)) (r .updates) a e)
 
-  apart-false : (a e : ℕ) → agreeAt l r a e ≡ false → Apart l r a e
-  apart-false a e f = record {
+  -- contents that are shared where they must be, and elsewhere x
+  apartFrom : Bool → Content Bool
+  apartFrom x b d = cond (starts (arrayAt (l .tables .arrays) b)) true x
+
+  -- one side leaves the element as it was: let that be another value than the other side's
+  left-missing : (a e : ℕ) → given l a e ≡ false → Apart l r a e
+  unfolding flat apartFrom
+  left-missing a e f =
+      let n = neither (starts (arrayAt (l .tables .arrays) a)) (written (l .updates) a e) f in
+      record {
+        S = Bool;
+        meaning = flat;
+        respects = λ o s x y. refl;
+        one = apartFrom (not v);
+        other = λ b d. true;
+        shared = λ b d g. rw g;
+        apart = λ g. other-one v (sym g ∙ unwritten-after flat (l .updates) (apartFrom (not v)) a e (n .1) ∙ rw (n .0));
+      }
+    where
+      v : Bool
+      v = after flat (r .updates) (λ b d. true) a e
+
+  right-missing : (a e : ℕ) → starts (arrayAt (l .tables .arrays) a) ≡ false → written (r .updates) a e ≡ false → Apart l r a e
+  unfolding flat apartFrom
+  right-missing a e s w =
+      record {
+        S = Bool;
+        meaning = flat;
+        respects = λ o s x y. refl;
+        one = λ b d. true;
+        other = apartFrom (not v);
+        shared = λ b d g. rw g;
+        apart = λ g. other-one v (g ∙ unwritten-after flat (r .updates) (apartFrom (not v)) a e w ∙ rw s);
+      }
+    where
+      v : Bool
+      v = after flat (l .updates) (λ b d. true) a e
+
+  terms-differ : (a e : ℕ) → alike (swapping l) (after free (l .updates) cell a e) (after free (r .updates) cell a e) ≡ false → Apart l r a e
+  terms-differ a e f = record {
     S = Tree → Bool;
     meaning = classes (swapping l);
     respects = classes-respect (swapping l);
@@ -99,6 +157,20 @@ module _ (mask : ℕ) (l r : Listed) where
     shared = λ b d g. refl;
     apart = λ g. true≢false (sym (classed a e g) ∙ f);
   }
+
+  apart-false : Sound l → Sound r → Passed mask l r → (a e : ℕ) → agreeAt l r a e ≡ false → Apart l r a e
+  apart-false p q y a e f = go (given l a e) refl (given r a e) refl f
+    where
+      missing : given r a e ≡ false → Apart l r a e
+      missing g =
+          let n = neither (starts (arrayAt (r .tables .arrays) a)) (written (r .updates) a e) g in
+          right-missing a e (same-start p q y a ∙ n .0) (n .1)
+
+      go : (b : Bool) → given l a e ≡ b → (d : Bool) → given r a e ≡ d
+          → (b && (d && alike (swapping l) (after free (l .updates) cell a e) (after free (r .updates) cell a e))) ≡ false → Apart l r a e
+      go false g d h i = left-missing a e g
+      go true g false h i = missing h
+      go true g true h i = terms-differ a e i
 
   not-apart : (a e : ℕ) → Agree l r a e → Apart l r a e → ⊥
   not-apart a e g p = p .apart (g (p .S) (p .meaning) (p .respects) (p .one) (p .other) (p .shared))
@@ -118,7 +190,7 @@ module _ (mask : ℕ) (l r : Listed) where
       count n e = cc is
 
       all : (a e : ℕ) → Compared mask l a e → Agree l r a e
-      all a e c = agree-true p q y a e c (z .all a a e (omega arith) c)
+      all a e c = agree-true p q y a e (z .all a a e (omega arith) c)
 
       crash : (a e : ℕ) → listsReply mask l r ≡ differs a e → ⊥
       crash a e d = let w : _≡_ {A = ℕ} 0 1 = cc is in omega arith
@@ -137,10 +209,10 @@ module _ (mask : ℕ) (l r : Listed) where
       here = let w : z .i ≡ z .a = (let v = z .at in omega arith) in subst (λ (i : ℕ). comparedIn mask (z .a) (arrayAt (l .tables .arrays) i) (z .e) ≡ true) w (z .inside)
 
       apart : Apart l r (z .a) (z .e)
-      apart = apart-false (z .a) (z .e) (z .differ)
+      apart = apart-false p q y (z .a) (z .e) (z .differ)
 
       before : (b d : ℕ) → Compared mask l b d → Earlier b d (z .a) (z .e) → Agree l r b d
-      before b d c w = agree-true p q y b d c (z .before b b d (omega arith) c w)
+      before b d c w = agree-true p q y b d (z .before b b d (omega arith) c w)
 
       first : FirstApart mask l r (z .a) (z .e)
       first = (here, apart, before)
@@ -152,20 +224,11 @@ module _ (mask : ℕ) (l r : Listed) where
           subst (λ (i : ℕ). FirstApart mask l r i e) v (subst (λ (i : ℕ). FirstApart mask l r (z .a) i) w first)
 
       place : (a e : ℕ) → FirstApart mask l r a e → listsReply mask l r ≡ differs a e
-      place a e g = columns (le-or-lt a (z .a)) (le-or-lt (z .a) a) (le-or-lt e (z .e)) (le-or-lt (z .e) e)
-        where
-          sooner : Earlier a e (z .a) (z .e) → ⊥
-          sooner w = not-apart a e (before a e (g .0) w) (g .1)
-
-          later : Earlier (z .a) (z .e) a e → ⊥
-          later w = not-apart (z .a) (z .e) (g .2 (z .a) (z .e) here w) apart
-
-          columns : (a ≤ z .a) ⊎ (z .a < a) → (z .a ≤ a) ⊎ (a < z .a) → (e ≤ z .e) ⊎ (z .e < e) → (z .e ≤ e) ⊎ (e < z .e) → listsReply mask l r ≡ differs a e
-          columns (inr x) u v w = absurd (later (inl x))
-          columns (inl x) (inr u) v w = absurd (sooner (inl u))
-          columns (inl x) (inl u) (inr v) w = absurd (later (inr (omega arith, v)))
-          columns (inl x) (inl u) (inl v) (inr w) = absurd (sooner (inr (omega arith, w)))
-          columns (inl x) (inl u) (inl v) (inl w) = is ∙ ap₂ differs (omega arith) (omega arith)
+      place a e g =
+          let w = same-place (z .a) (z .e) a e
+          (λ w. not-apart (z .a) (z .e) (g .2 (z .a) (z .e) here w) apart)
+          (λ w. not-apart a e (before a e (g .0) w) (g .1)) in
+          is ∙ ap₂ differs (w .0) (w .1)
 
   pub demand2 : Sound l → Sound r → isRefused (listsReply mask l r) ≡ false → Told mask l r (listsReply mask l r)
   demand2 p q n = let y = passed n in told p q (y .0) (y .1) (first-difference mask (agreeAt l r) (equal (comparedSize mask 0 (l .tables .arrays))) (l .tables .arrays) 0)

@@ -90,8 +90,8 @@ unread-here = refl
 
 -- two writes of one cell, turned round, differ
 abbrev twice : Listed
-twice = record { tables = one .tables; updates = write 1 1 (cell 0 0) ∷ write 1 1 (cell 0 1) ∷ [] }
+twice = record { tables = one .tables; updates = write 1 0 (cell 0 0) ∷ write 1 1 (cell 0 0) ∷ write 1 1 (cell 0 1) ∷ [] }
 
-differs-here : listsReply 65535 twice (reorder twice (1 ∷ 0 ∷ [])) ≡ differs 1 1
+differs-here : listsReply 65535 twice (reorder twice (0 ∷ 2 ∷ 1 ∷ [])) ≡ differs 1 1
 unfolding listsReply turned alike alikes swapsAt swaps parts partsOf termCount valueOf valuesOf
 differs-here = refl

@@ -6,8 +6,8 @@ use mathlib.Core.Path.{_≡_, refl, sym, ap, ap₂, _∙_, subst}
 use mathlib.Core.Logic.{_⊎_, inl, inr, ⊎-elim}
 use mathlib.Core.List.{List, [], _∷_}
 use mathlib.Core.Bool.{Bool, true, false, _&&_, cond, false≢true, and-eq-true-iff}
-use lib.Dec.{eqb, ltb}
-use borrow.Author.Tests.{ltb-true, lt-ltb}
+use lib.Dec.{eqb, ltb, leb}
+use borrow.Author.Tests.{ltb-true, lt-ltb, leb-true, leb-false}
 use Rattle.model.specs.Tables.{Array, arrayAt, cells}
 use Rattle.model.specs.Reply.{Reply, differs}
 use Rattle.comparer.specs.Match.{firstCell, firstDifference, compared}
@@ -146,3 +146,17 @@ module _ (mask : ℕ) (agree : ℕ → ℕ → Bool) (none : Reply) where
           → ElementNone (x ∷ xs) k mask agree none (Whole x xs k) ⊎ ElementAt (x ∷ xs) k mask agree (Whole x xs k)
       go true e p = enter x xs k e (first-cell (agree k) (differs k) (Rest x xs k) (n x xs k) 0) p
       go false e p = skip x xs k e p
+
+-- of two places neither of which is earlier
+pub same-place : (a e b d : ℕ) → (Earlier a e b d → ⊥) → (Earlier b d a e → ⊥) → (a ≡ b) × (e ≡ d)
+same-place a e b d m n = go (leb a b) refl (leb b a) refl
+  where
+    cells-same : a ≡ b → (x : Bool) → leb e d ≡ x → (y : Bool) → leb d e ≡ y → e ≡ d
+    cells-same q true f true g = omega (arith, leb-true e d f, leb-true d e g)
+    cells-same q false f y g = absurd (n (inr (sym q, leb-false e d f)))
+    cells-same q true f false g = absurd (m (inr (q, leb-false d e g)))
+
+    go : (x : Bool) → leb a b ≡ x → (y : Bool) → leb b a ≡ y → (a ≡ b) × (e ≡ d)
+    go true f true g = let q : a ≡ b = omega (arith, leb-true a b f, leb-true b a g) in (q, cells-same q (leb e d) refl (leb d e) refl)
+    go false f y g = absurd (n (inl (leb-false a b f)))
+    go true f false g = absurd (m (inl (leb-false b a g)))

@@ -1,59 +1,60 @@
 -- What `first_cell` and `first_array` answer, round by round: what answers the rest answers the whole.
-use mathlib.Core.Path.{_≡_, refl, sym, ap, _∙_, subst}
-use mathlib.Core.Bool.{Bool, true, false, cond}
+use mathlib.Core.Path.{_≡_, refl, sym, ap, ap₂, _∙_, subst, subst₂}
+use mathlib.Core.Bool.{Bool, true, false, _&&_, cond}
 use mathlib.Core.List.{List, [], _∷_}
 use Prim.Native.Nat.{ℕ, zero, suc, _+_, _-_, _≤_, _<_}
 use native.Mathlib.Numerals.{add-one}
 use native.Mathlib.Omega.{arith}
 use lib.ListN.{length, getD, drop}
 use lib.Seq.{drop-cons}
-use lib.Dec.{ltb, leb}
+use lib.Dec.{eqb, ltb, leb}
 use borrow.Author.Tests.{lt-ltb, le-ltb, leb-false}
-use Rattle.model.specs.Tables.{Array, Tables, cells, arrayAt}
-use Rattle.model.specs.Update.{Tree}
+use Rattle.model.specs.Tables.{Array, Tables, cells, arrayAt, starts}
 use Rattle.model.specs.Reply as model
+use Rattle.terms.specs.Term.{alike}
 use Rattle.unroller.specs.Allowed.{allowedTables}
 use Rattle.unroller.specs.Stands.{HeaderAt}
 use Rattle.unroller.proofs.Parts.{tables-parts}
-use Rattle.comparer.specs.Meaning.{Content}
 use Rattle.comparer.specs.Match.{compared, comparedSize, firstCell, firstDifference}
 use Rattle.comparer.specs.Answers.{replySays}
 use Rattle.comparer.specs.declared.reply.Reply.{Reply}
 use Rattle.comparer.specs.declared.reply.Reply.the-variants as reply
-use Rattle.comparer.specs.Comparing.{comparedAt, sizeAt, Agrees, Sides, agree, FirstCell, FirstArray}
-use Rattle.comparer.proofs.Sizes.{count-few, compared-is, size-cells}
+use Rattle.comparer.specs.Comparing.{roleAt, comparedAt, sizeAt, BothGiven, Final, Sides, agree, FirstCell, FirstArray}
+use Rattle.comparer.proofs.Sizes.{count-few, compared-is, inout-is, size-cells}
 
 -- ---- first_cell
-module _ (left right m : List ℕ) (p q a size : ℕ) where
+module _ (left right m : List ℕ) (inout : Bool) (p q a size : ℕ) where
   -- no array has its cells outside
-  pub cells-outside-left : false ≡ leb (p + size) (length left) → (d : ℕ) → FirstCell left right m p q a size 0 d
+  pub cells-outside-left : false ≡ leb (p + size) (length left) → (d : ℕ) → FirstCell left right m inout p q a size 0 d
   unfolding FirstCell
   cells-outside-left h d swaps l r S found none = absurd (omega (arith, leb-false (p + size) (length left) (sym h), S .left-room))
 
-  pub cells-outside-right : false ≡ leb (q + size) (length right) → (d : ℕ) → FirstCell left right m p q a size 0 d
+  pub cells-outside-right : false ≡ leb (q + size) (length right) → (d : ℕ) → FirstCell left right m inout p q a size 0 d
   unfolding FirstCell
   cells-outside-right h d swaps l r S found none = absurd (omega (arith, leb-false (q + size) (length right) (sym h), S .right-room))
 
   module _ (c : ℕ) where
-    pub cell-end : size ≤ c → FirstCell left right m p q a size c c
+    pub cell-end : size ≤ c → FirstCell left right m inout p q a size c c
     unfolding FirstCell
     cell-end h swaps l r S found none =
         let e : size - c ≡ 0 = omega arith in
         rw (e, le-ltb c size h)
 
-    module _ (h : c < size) (b : Bool) (A : Agrees m (getD left (p + c) 0) (getD right (q + c) 0) a c b) where
-      test : (swaps : ℕ → Bool) (l r : Content Tree) → Sides swaps left right m p q a size l r → b ≡ agree swaps l r a c
-      unfolding Agrees
-      test swaps l r S = A swaps (S .count) (S .ts) (l a c) (r a c) (S .stored) (S .left-shows c h) (S .right-shows c h)
+    module _ (h : c < size) (b : Bool) (A : BothGiven m inout (getD left (p + c) 0) (getD right (q + c) 0) a c b) where
+      test : (swaps : ℕ → Bool) (l r : Final) → Sides swaps left right m inout p q a size l r → b ≡ agree swaps l r a c
+      unfolding BothGiven
+      test swaps l r S =
+          A swaps (S .count) (S .ts) (l .1 a c) (r .1 a c) (S .stored) (S .left-shows c h) (S .right-shows c h)
+          ∙ ap₂ (λ (x y : Bool). x && (y && alike swaps (l .1 a c) (r .1 a c))) (sym (S .left-given c h)) (sym (S .right-given c h))
 
       one-more : size - c ≡ suc (size - (c + 1))
       one-more = omega arith
 
-      pub cell-stop : b ≡ false → FirstCell left right m p q a size c c
+      pub cell-stop : b ≡ false → FirstCell left right m inout p q a size c c
       unfolding FirstCell
       cell-stop e swaps l r S found none = rw (one-more, sym (test swaps l r S) ∙ e, lt-ltb c size h)
 
-      pub cell-step : b ≡ true → (d : ℕ) → FirstCell left right m p q a size (c + 1) d → FirstCell left right m p q a size c d
+      pub cell-step : b ≡ true → (d : ℕ) → FirstCell left right m inout p q a size (c + 1) d → FirstCell left right m inout p q a size c d
       unfolding FirstCell
       cell-step e d F swaps l r S found none =
           rw (one-more, sym (test swaps l r S) ∙ e)
@@ -117,7 +118,7 @@ module _ (list : List ℕ) (mask : ℕ) (lefts rights left right m : List ℕ) w
         go xs q = let z : sum ≡ sum + 0 = omega arith in rw q (ap model.equal z)
 
     module _ (h : a < n) where
-      module _ (swaps : ℕ → Bool) (t : Tables) (l r : Content Tree) (H : HeaderAt list t) where
+      module _ (swaps : ℕ → Bool) (t : Tables) (l r : Final) (H : HeaderAt list t) where
         inside : a < length (t .arrays)
         inside = omega (arith, H .count)
 
@@ -143,19 +144,22 @@ module _ (list : List ℕ) (mask : ℕ) (lefts rights left right m : List ℕ) w
           (from-next swaps t l r H sum (replySays x) (F swaps t l r H P S)
           ∙ first-off mask a (arrayAt (t .arrays) a) (drop (suc a) (t .arrays)) (agree swaps l r) sum (answered swaps t l r H P false q))
 
-      module _ (q : true ≡ comparedAt list mask a) (size : ℕ) (z : size ≡ sizeAt list a) (d : ℕ)
-          (D : FirstCell left right m (getD lefts a 0) (getD rights a 0) a size 0 d) where
-        module _ (swaps : ℕ → Bool) (t : Tables) (l r : Content Tree) (H : HeaderAt list t) (P : allowedTables t ≡ true) where
+      module _ (q : true ≡ comparedAt list mask a) (size : ℕ) (z : size ≡ sizeAt list a) (role : ℕ) (o : role ≡ roleAt list a) (d : ℕ)
+          (D : FirstCell left right m (eqb role 2) (getD lefts a 0) (getD rights a 0) a size 0 d) where
+        module _ (swaps : ℕ → Bool) (t : Tables) (l r : Final) (H : HeaderAt list t) (P : allowedTables t ≡ true) where
           size-own : size ≡ cells (arrayAt (t .arrays) a .extents)
           size-own = z ∙ size-cells list t H (tables-parts t P) a (inside swaps t l r H)
 
-          first-is : Sides swaps left right m (getD lefts a 0) (getD rights a 0) a (cells (arrayAt (t .arrays) a .extents)) l r → (none : model.Reply)
+          first-is : compared mask a (arrayAt (t .arrays) a) ≡ true
+              → Sides swaps left right m (starts (arrayAt (t .arrays) a)) (getD lefts a 0) (getD rights a 0) a (cells (arrayAt (t .arrays) a .extents)) l r → (none : model.Reply)
               → firstCell size 0 (agree swaps l r a) (model.differs a) none ≡ cond (ltb d size) (model.differs a d) none
           unfolding FirstCell
-          first-is S none =
+          first-is on S none =
               let y : size ≡ size - 0 = omega arith in
               ap (λ (k : ℕ). firstCell k 0 (agree swaps l r a) (model.differs a) none) y
-              ∙ D swaps l r (subst (λ (k : ℕ). Sides swaps left right m (getD lefts a 0) (getD rights a 0) a k l r) (sym size-own) S) (model.differs a) none
+              ∙ D swaps l r
+              (subst₂ (λ (b : Bool) (k : ℕ). Sides swaps left right m b (getD lefts a 0) (getD rights a 0) a k l r)
+              (sym (inout-is list t H (tables-parts t P) a (inside swaps t l r H) mask role o on)) (sym size-own) S) (model.differs a) none
 
         pub array-differs : d < size → First a sum (reply.Differs a d)
         unfolding FirstArray
@@ -163,7 +167,7 @@ module _ (list : List ℕ) (mask : ℕ) (lefts rights left right m : List ℕ) w
             let on = answered swaps t l r H P true q in
             from-here swaps t l r H sum (model.differs a d)
             (first-here mask a (arrayAt (t .arrays) a) (drop (suc a) (t .arrays)) (agree swaps l r) sum on size d (size-own swaps t l r H P)
-            (first-is swaps t l r H P (S a (inside swaps t l r H) on)) i)
+            (first-is swaps t l r H P on (S a (inside swaps t l r H) on)) i)
 
         pub array-more : size ≤ d → (x : Reply) → First (a + 1) (sum + size) x → First a sum x
         unfolding FirstArray
@@ -172,4 +176,4 @@ module _ (list : List ℕ) (mask : ℕ) (lefts rights left right m : List ℕ) w
             from-here swaps t l r H sum (replySays x)
             (from-next swaps t l r H (sum + size) (replySays x) (F swaps t l r H P S)
             ∙ first-past mask a (arrayAt (t .arrays) a) (drop (suc a) (t .arrays)) (agree swaps l r) sum on size d (size-own swaps t l r H P)
-            (first-is swaps t l r H P (S a (inside swaps t l r H) on)) i)
+            (first-is swaps t l r H P on (S a (inside swaps t l r H) on)) i)

@@ -2,6 +2,7 @@ pub mod Values
 pub mod Classes
 pub mod First
 pub mod Alike
+pub mod Unwritten
 pub mod SameTables
 pub mod Demand2
 pub mod Reorder

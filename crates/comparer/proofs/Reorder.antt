@@ -97,6 +97,14 @@ or-swap false b c = refl
 or-swap true true c = refl
 or-swap true false c = refl
 
+pick-written : {u : Update} {us rest : List Update} → Pick u us rest → (a c : ℕ) → written us a c ≡ written (u ∷ rest) a c
+pick-written here a c = refl
+pick-written {u} (later {v = v} {rest = rest} e p) a c = ap (λ (b : Bool). writes v a c || b) (pick-written p a c) ∙ or-swap (writes v a c) (writes u a c) (written rest a c)
+
+pub written-reordered : {us new : List Update} → Reordered us new → (a c : ℕ) → written us a c ≡ written new a c
+written-reordered none a c = refl
+written-reordered (next {u = u} p r) a c = pick-written p a c ∙ ap (λ (b : Bool). writes u a c || b) (written-reordered r a c)
+
 pick-total : (f : Update → ℕ) {u : Update} {us rest : List Update} → Pick u us rest → total f us ≡ total f (u ∷ rest)
 pick-total f here = refl
 pick-total f {u} (later {v = v} {us = us} {rest = rest} e p) = let ih : total f us ≡ f u + total f rest = pick-total f p in omega arith

@@ -1,6 +1,6 @@
 -- Where 22 and 23 have a yes the tables agree, and where locals come last each array number has the same role on both sides.
 use Prim.Native.Nat.{ℕ, zero, suc}
-use mathlib.Core.Path.{_≡_, refl, sym, ap₂}
+use mathlib.Core.Path.{_≡_, refl, sym, ap₂, subst}
 use mathlib.Core.Logic.{_⊎_, inl, inr}
 use mathlib.Core.List.{List, [], _∷_}
 use mathlib.Core.Bool.{Bool, true, false, _&&_, _||_, not, cond, false≢true, and-eq-true-iff}
@@ -72,17 +72,18 @@ non-local-role after (x ∷ xs) e a = let p = and-eq-true-iff (not after || loca
     go false f zero p ih = rw f
     go false f (suc a) p ih = rw f (ih a)
 
--- a role that is one of two others is not local
-not-local : (i j role : ℕ) → eqb i 3 ≡ false → eqb j 3 ≡ false → (eqb role i || eqb role j) ≡ true → eqb role 3 ≡ false
-not-local i j role p q e = go (eqb role i) refl (eqb role j) refl e
+-- what holds of out and inout holds of a compared array's role
+compared-role : (P : ℕ → Type 0) (mask a : ℕ) (x : Array) → compared mask a x ≡ true → P 1 → P 2 → P (x .role)
+compared-role P mask a x e p q = go (eqb (x .role) 1) refl (eqb (x .role) 2) refl (and-eq-true-iff (eqb (x .role) 1 || eqb (x .role) 2) (bit mask a) .0 e .0)
   where
-    go : (b : Bool) → eqb role i ≡ b → (c : Bool) → eqb role j ≡ c → (b || c) ≡ true → eqb role 3 ≡ false
-    go true f c g e′ = rw (eqb-true role i f) p
-    go false f true g e′ = rw (eqb-true role j g) q
-    go false f false g e′ = absurd (false≢true e′)
-
-pub started-shared : (x : Array) → starts x ≡ true → local x ≡ false
-started-shared x e = not-local 0 2 (x .role) refl refl e
+    go : (b : Bool) → eqb (x .role) 1 ≡ b → (c : Bool) → eqb (x .role) 2 ≡ c → (b || c) ≡ true → P (x .role)
+    go true f c g h = subst P (sym (eqb-true (x .role) 1 f)) p
+    go false f true g h = subst P (sym (eqb-true (x .role) 2 g)) q
+    go false f false g h = absurd (false≢true h)
 
 pub compared-shared : (mask a : ℕ) (x : Array) → compared mask a x ≡ true → local x ≡ false
-compared-shared mask a x e = not-local 1 2 (x .role) refl refl (and-eq-true-iff (eqb (x .role) 1 || eqb (x .role) 2) (bit mask a) .0 e .0)
+compared-shared mask a x e = compared-role (λ role. eqb role 3 ≡ false) mask a x e refl refl
+
+-- of the compared arrays the inout ones start alike on both sides
+pub compared-starts : (mask a : ℕ) (x : Array) → compared mask a x ≡ true → eqb (x .role) 2 ≡ starts x
+compared-starts mask a x e = compared-role (λ role. eqb role 2 ≡ eqb role 0 || eqb role 2) mask a x e refl refl

@@ -1,7 +1,7 @@
 -- What the functions over the header's words answer, and that their sums are the bases of the tables.
 use mathlib.Core.Path.{_≡_, refl, sym, ap, ap₂, _∙_, subst}
 use mathlib.Core.Logic.{⊎-elim}
-use mathlib.Core.Bool.{Bool, true, false, _&&_, _||_, and-false}
+use mathlib.Core.Bool.{Bool, true, false, _&&_, _||_, and-true, and-false}
 use mathlib.Core.List.{List, [], _∷_}
 use Prim.Native.Nat.{ℕ, zero, suc, _+_, _-_, _*_, _/_, _%_, _^_, _≤_, _<_}
 use native.Mathlib.Nat.{eq-or-lt-of-le, mul-one, mul-assoc}
@@ -11,14 +11,15 @@ use lib.Seq.{getD-set-same, getD-set-other}
 use lib.Dec.{eqb, ltb, leb}
 use borrow.Author.Tests.{eq-eqb, ne-eqb, le-leb, lt-leb, leb-true, leb-false}
 use Rattle.model.specs.Test.{within, every}
-use Rattle.model.specs.Tables.{Array, Tables, cells, arrayAt}
+use Rattle.model.specs.Tables.{Array, Tables, cells, arrayAt, starts}
 use Rattle.unroller.specs.Allowed.{allowedArray}
 use Rattle.unroller.specs.Stands.{basesOf, HeaderAt}
 use Rattle.unroller.proofs.Parts.{both, within-low, within-high, every-at, array-parts, TablesParts}
 use Rattle.unroller.proofs.Stands.{bases-length, bases-first, bases-step, bases-last, bases-sorted}
 use Rattle.comparer.specs.Match.{compared}
 use Rattle.comparer.specs.Work.{Table}
-use Rattle.comparer.specs.Comparing.{record-at, comparedAt, extentOrOne, sizeAt, Sums}
+use Rattle.comparer.proofs.SameTables.{compared-starts}
+use Rattle.comparer.specs.Comparing.{record-at, roleAt, comparedAt, extentOrOne, sizeAt, Sums}
 
 -- ---- fits
 module _ (from size room : ℕ) where
@@ -36,20 +37,16 @@ module _ (from size room : ℕ) where
 module _ (list : List ℕ) (mask a : ℕ) where
   pub compared-off : (mask / 2 ^ a % 2 ≡ 1 → ⊥) → false ≡ comparedAt list mask a
   unfolding comparedAt
-  compared-off h = rw (ne-eqb (mask / 2 ^ a % 2) 1 h) (sym (and-false (eqb (getD list (record-at a) 0) 1 || eqb (getD list (record-at a) 0) 2)))
+  compared-off h = rw (ne-eqb (mask / 2 ^ a % 2) 1 h) (sym (and-false (eqb (roleAt list a) 1 || eqb (roleAt list a) 2)))
 
-  module _ (h : mask / 2 ^ a % 2 ≡ 1) where
-    pub compared-out : getD list (record-at a) 0 ≡ 1 → true ≡ comparedAt list mask a
+  module _ (role : ℕ) (e : role ≡ roleAt list a) (h : mask / 2 ^ a % 2 ≡ 1) where
+    pub compared-out : role ≡ 1 → true ≡ comparedAt list mask a
     unfolding comparedAt
-    compared-out e = rw (eq-eqb (mask / 2 ^ a % 2) 1 h, eq-eqb (getD list (record-at a) 0) 1 e)
+    compared-out o = rw (sym e, eq-eqb (mask / 2 ^ a % 2) 1 h, eq-eqb role 1 o)
 
-    pub compared-inout : (getD list (record-at a) 0 ≡ 1 → ⊥) → eqb (getD list (record-at a) 0) 2 ≡ comparedAt list mask a
+    pub compared-inout : (role ≡ 1 → ⊥) → eqb role 2 ≡ comparedAt list mask a
     unfolding comparedAt
-    compared-inout e = rw (eq-eqb (mask / 2 ^ a % 2) 1 h, ne-eqb (getD list (record-at a) 0) 1 e) (go (eqb (getD list (record-at a) 0) 2))
-      where
-        go : (b : Bool) → b ≡ (b && true)
-        go true = refl
-        go false = refl
+    compared-inout o = rw (sym e, eq-eqb (mask / 2 ^ a % 2) 1 h, ne-eqb role 1 o) (sym (and-true (eqb role 2)))
 
 -- ---- extent-or-one and size_of
 module _ (used : Bool) (x : ℕ) where
@@ -126,6 +123,10 @@ module _ (list : List ℕ) (t : Tables) (H : HeaderAt list t) (P : TablesParts t
     pub compared-is : (mask : ℕ) → comparedAt list mask a ≡ compared mask a (arrayAt (t .arrays) a)
     unfolding comparedAt
     compared-is mask = rw (H .array a h .role)
+
+    -- of the compared arrays the inout ones start alike on both sides
+    pub inout-is : (mask role : ℕ) → role ≡ roleAt list a → compared mask a (arrayAt (t .arrays) a) ≡ true → eqb role 2 ≡ starts (arrayAt (t .arrays) a)
+    inout-is mask role r e = rw (r, H .array a h .role) (compared-starts mask a (arrayAt (t .arrays) a) e)
 
 -- an allowed extent is its own extent-or-one
 extent-or-one-own : (x : ℕ) → within 1 1024 x ≡ true → extentOrOne true x ≡ x

@@ -74,14 +74,25 @@ listOf us = listWith 2 us
 abbrev swapList : List Update → Listed
 swapList us = listWith 0x82 us
 
+-- an inout array of two cells in place of the out array
+abbrev inoutList : List Update → Listed
+inoutList us = record {
+  tables = record { operators = []; arrays = record { role = 0; extents = 2 ∷ [] } ∷ record { role = 2; extents = 2 ∷ [] } ∷ [] };
+  updates = us;
+}
+
 abbrev write : ℕ → Tree → Update
 write c x = record { array = 1; target = c; source = x }
+
+-- out[0], so that it is written
+abbrev first : Update
+first = write 0 (cell 0 0)
 
 abbrev f : Tree → Tree → Tree
 f x y = operator 0 (cons x (cons y nil))
 
 -- f(a, b) and f(b, a) differ: an operator without the mark has no laws
-pub arguments-differ : listsReply allBits (listOf (write 1 (f (cell 0 0) (cell 0 1)) ∷ [])) (listOf (write 1 (f (cell 0 1) (cell 0 0)) ∷ [])) ≡ differs 1 1
+pub arguments-differ : listsReply allBits (listOf (first ∷ write 1 (f (cell 0 0) (cell 0 1)) ∷ [])) (listOf (first ∷ write 1 (f (cell 0 1) (cell 0 0)) ∷ [])) ≡ differs 1 1
 unfolding listsReply turned alike alikes swapsAt swaps parts partsOf termCount valueOf valuesOf
 arguments-differ = refl
 
@@ -96,15 +107,23 @@ pub mask-bits : listsReply 2 (listOf (write 0 (cell 0 0) ∷ [])) (listOf []) �
 unfolding listsReply turned alike alikes swapsAt swaps parts partsOf termCount valueOf valuesOf
 mask-bits = refl
 
+-- an out element that both sides leave unwritten is a difference, and so is one that one side leaves; an inout element is none
+pub unwritten-differs :
+    listsReply allBits (listOf (first ∷ [])) (listOf (first ∷ [])) ∷ listsReply allBits (listOf (first ∷ write 1 (cell 0 0) ∷ [])) (listOf (first ∷ []))
+    ∷ listsReply allBits (inoutList []) (inoutList []) ∷ listsReply allBits (inoutList (write 1 (cell 1 1) ∷ [])) (inoutList []) ∷ []
+    ≡ differs 1 1 ∷ differs 1 1 ∷ equal 2 ∷ equal 2 ∷ []
+unfolding listsReply turned alike alikes swapsAt swaps parts partsOf termCount valueOf valuesOf
+unwritten-differs = refl
+
 -- with the mark they are equal, at every depth: f(f(a, b), a) beside f(a, f(b, a))
 pub arguments-swap :
-    listsReply allBits (swapList (write 1 (f (f (cell 0 0) (cell 0 1)) (cell 0 0)) ∷ [])) (swapList (write 1 (f (cell 0 0) (f (cell 0 1) (cell 0 0))) ∷ [])) ≡ equal 2
+    listsReply allBits (swapList (first ∷ write 1 (f (f (cell 0 0) (cell 0 1)) (cell 0 0)) ∷ [])) (swapList (first ∷ write 1 (f (cell 0 0) (f (cell 0 1) (cell 0 0))) ∷ [])) ≡ equal 2
 unfolding listsReply turned alike alikes swapsAt swaps parts partsOf termCount valueOf valuesOf
 arguments-swap = refl
 
 -- and no more than that: f(f(a, a), b) beside f(f(a, b), a) differ, since no meaning need be associative
 pub no-other-law :
-    listsReply allBits (swapList (write 1 (f (f (cell 0 0) (cell 0 0)) (cell 0 1)) ∷ [])) (swapList (write 1 (f (f (cell 0 0) (cell 0 1)) (cell 0 0)) ∷ [])) ≡ differs 1 1
+    listsReply allBits (swapList (first ∷ write 1 (f (f (cell 0 0) (cell 0 0)) (cell 0 1)) ∷ [])) (swapList (first ∷ write 1 (f (f (cell 0 0) (cell 0 1)) (cell 0 0)) ∷ [])) ≡ differs 1 1
 unfolding listsReply turned alike alikes swapsAt swaps parts partsOf termCount valueOf valuesOf
 no-other-law = refl
 

@@ -1,18 +1,14 @@
 -- The claims of specs/Claims.antt, proved of the definitions.
-use Prim.Native.Nat.{ℕ, zero, suc, _+_, _-_, _*_, _/_, _%_, _≤_, _<_}
+use Prim.Native.Nat.{ℕ}
 use native.Mathlib.Omega.{arith}
 use mathlib.Core.Path.{_≡_, refl, sym, ap, ap₂, _∙_, subst}
-use mathlib.Core.Logic.{_↔_, _⊎_, inl, inr}
-use mathlib.Core.List.{List, [], _∷_, _++_, map}
+use mathlib.Core.List.{List, []}
 use mathlib.Core.Option.{Option, none, some}
-use mathlib.Core.Bool.{Bool, true, false, _&&_, _||_, not, false≢true, true≢false, or-false}
+use mathlib.Core.Bool.{Bool, true, false, _||_, true≢false, or-false}
 use lib.ListN.{length}
-use lib.Dec.{leb, eqb}
-use borrow.Author.Tests.{eq-eqb}
-use Rattle.model.specs.Test.{if_then_else_}
-use Rattle.model.specs.Tables.{Array, arrayAt, local, starts}
+use Rattle.model.specs.Tables.{arrayAt, starts}
 use Rattle.model.specs.Update.{Listed, written}
-use Rattle.model.specs.Reply.{Reply, Side, equal, differs, refused, left, right, both, isRefused}
+use Rattle.model.specs.Reply.{Reply, left, right, isRefused}
 use Rattle.unroller.specs.Run.{Ran, ok, stop}
 use Rattle.unroller.specs.Allowed.{allowed}
 use Rattle.unroller.specs.Layout.{layout}
@@ -26,19 +22,14 @@ use Rattle.unroller.proofs.Accepted.{unrolled-allowed as allowed-run}
 use Rattle.unroller.proofs.Fits.{indices-fit as index-values-fit, forms-bounded, forms-fit as forms-in-32}
 use Rattle.unroller.proofs.Question21.{run-question21, unrolled-question21}
 use Rattle.unroller.proofs.Runs.{unrolled-last, unrolled-reads}
-use Rattle.model.specs.Update.Tree.{cell}
-use Rattle.terms.specs.Term.{termCount}
-use Rattle.terms.proofs.Alike.{alike-refl}
-use Rattle.comparer.specs.Meaning.{Meaning, Content, after, free}
-use Rattle.comparer.specs.Match.{swapping, comparedSize, firstDifference, agreeAt, writtenTerms, matched, sameArray, nonLocal, sameTable, operatorsReply, listsReply}
+use Rattle.comparer.specs.Meaning.{Meaning, Content, after}
+use Rattle.comparer.specs.Match.{listsReply}
 use Rattle.comparer.specs.Entry.{decodedReply, enough, entryReply, wordsReply, sideReply, programsReply}
 use Rattle.comparer.specs.Told.{Shared, Told}
-use Rattle.comparer.specs.Order.{NewOrder, reorder}
-use Rattle.comparer.specs.Claims.{Demand2Lists, ToldOf, Demand2Words, Demand2Programs, Kept, Demand3, LayoutRead, LayoutOnly, LayoutInjective, LayoutFits, Question26, UnrolledAllowed, IndicesFit, FormsSmall, FormsFit, Question21, RepliesWithout21, FreeStandsForAll, NeverApartFromItself}
+use Rattle.comparer.specs.Order.{reorder}
+use Rattle.comparer.specs.Claims.{Demand2Lists, ToldOf, Demand2Words, Demand2Programs, Demand3, LayoutRead, LayoutOnly, LayoutInjective, LayoutFits, Question26, UnrolledAllowed, IndicesFit, FormsSmall, FormsFit, Question21, RepliesWithout21, FreeStandsForAll}
 use Rattle.comparer.proofs.Values.{meaning-of-value}
 use Rattle.comparer.proofs.Alike.{after-alike}
-use Rattle.comparer.proofs.SameTables.{same-numbers, started-shared}
-use Rattle.comparer.proofs.First.{ElementAt, ElementNone, first-difference}
 use Rattle.comparer.proofs.Demand2.{Sound, demand2}
 use Rattle.comparer.proofs.KeptLists.{KeptLists, reordered-kept}
 
@@ -131,18 +122,13 @@ demand2-programs mask one other n = go (unrolled one) refl (unrolled other) refl
       told = subst (Told mask l r) (sym e) (demand2 mask l r (unrolled-sound one l p) (unrolled-sound other r q) z);
     }
 
--- a cell that is written, or not local, ends alike for contents that agree on non-local arrays
+-- contents that agree on in and inout arrays: a cell that is written, or on which they agree, ends alike
 module _ (l : Listed) (p : allowed l ≡ true) {S : Type 0} (m : Meaning S) (h g : Content S) (shared : Shared l h g) where
-  ends-alike : (a c : ℕ) → (written (l .updates) a c || not (local (arrayAt (l .tables .arrays) a))) ≡ true → after m (l .updates) h a c ≡ after m (l .updates) g a c
-  ends-alike a c e = after-alike m (l .tables .arrays) (l .updates) [] h g readable (allowed-sound l p .reads) a c (λ n. shared a c (unwritten (written (l .updates) a c) (local (arrayAt (l .tables .arrays) a)) n e))
+  ends-alike : (a c : ℕ) → (written (l .updates) a c ≡ false → h a c ≡ g a c) → after m (l .updates) h a c ≡ after m (l .updates) g a c
+  ends-alike a c e = after-alike m (l .tables .arrays) (l .updates) [] h g readable (allowed-sound l p .reads) a c e
     where
       readable : (b d : ℕ) → (starts (arrayAt (l .tables .arrays) b) || false) ≡ true → h b d ≡ g b d
-      readable b d f = shared b d (started-shared (arrayAt (l .tables .arrays) b) (sym (or-false (starts (arrayAt (l .tables .arrays) b))) ∙ f))
-
-      unwritten : (w x : Bool) → w ≡ false → (w || not x) ≡ true → x ≡ false
-      unwritten true x n f = absurd (true≢false n)
-      unwritten false true n f = absurd (false≢true f)
-      unwritten false false n f = refl
+      readable b d f = shared b d (sym (or-false (starts (arrayAt (l .tables .arrays) b))) ∙ f)
 
 pub demand3 : Demand3
 unfolding wordsReply
@@ -164,7 +150,7 @@ demand3 old l e order h = record { accepts = isNew; size = size; leaves = leaves
     size = layout-same l new (length old) was (k .accepts ∙ was) (k .count) (k .small) (decoded-fit old l e)
 
     leaves : (S : Type 0) (m : Meaning S) (h g : Content S) → Shared l h g → (a c : ℕ)
-        → (written (l .updates) a c || not (local (arrayAt (l .tables .arrays) a))) ≡ true → after m (new .updates) h a c ≡ after m (l .updates) g a c
+        → (written (l .updates) a c ≡ false → h a c ≡ g a c) → after m (new .updates) h a c ≡ after m (l .updates) g a c
     leaves S m h g shared a c w = k .leaves S m h a c ∙ ends-alike l was m h g shared a c w
 
     decodedLeft : (mask : ℕ) (y : Option Listed) → decodedReply mask (some new) y ≡ decodedReply mask (some l) y
@@ -182,37 +168,3 @@ demand3 old l e order h = record { accepts = isNew; size = size; leaves = leaves
     onRight : (mask : ℕ) (third : List ℕ) (cells terms : ℕ) → wordsReply mask third (layout new (length old)) cells terms ≡ wordsReply mask third old cells terms
     onRight mask third cells terms = ap₂ (λ (n : ℕ) (r : Reply). entryReply (enough (length third) n cells terms) r) size
         (ap (λ (x : Option Listed). decodedReply mask (decode third) x) isNew ∙ decodedRight mask (decode third) ∙ ap (λ (x : Option Listed). decodedReply mask (decode third) x) (sym e))
-
--- all arrays of a list beside itself agree, so no element is found
-self-tables : {A : Type 0} (alike : A → A → Bool) → ((x : A) → alike x x ≡ true) → (question : ℕ) (agreed : Reply) (k : ℕ) (xs : List A) → sameTable alike question agreed k xs xs ≡ agreed
-self-tables alike h question agreed k [] = refl
-self-tables alike h question agreed k (x ∷ xs) = rw (h x, self-tables alike h question agreed (suc k) xs)
-
-same-array : (x : Array) → sameArray x x ≡ true
-same-array x = rw (eq-eqb (x .role) (x .role) refl, same-numbers (x .extents))
-
-self-matched : (mask : ℕ) (l : Listed) → listsReply mask l l ≡ matched mask l l
-unfolding listsReply
-self-matched mask l =
-    self-tables sameArray same-array 22 (operatorsReply mask l l) 0 (nonLocal (l .tables .arrays))
-    ∙ self-tables eqb (λ x. eq-eqb x x refl) 23 (matched mask l l) 0 (l .tables .operators)
-
-pub never-apart-from-itself : NeverApartFromItself
-never-apart-from-itself mask l a e d = go (leb (termCount (swapping l) (writtenTerms l l)) 4096) refl (first-difference mask (agreeAt l l) whole (l .tables .arrays) 0)
-  where
-    whole : Reply
-    whole = equal (comparedSize mask 0 (l .tables .arrays))
-
-    found : Reply
-    found = firstDifference mask 0 (l .tables .arrays) (agreeAt l l) whole
-
-    is : matched mask l l ≡ differs a e
-    is = sym (self-matched mask l) ∙ d
-
-    agrees : (b c : ℕ) → agreeAt l l b c ≡ true
-    agrees b c = alike-refl (swapping l) (after free (l .updates) cell b c)
-
-    go : (few : Bool) → leb (termCount (swapping l) (writtenTerms l l)) 4096 ≡ few → ElementNone (l .tables .arrays) 0 mask (agreeAt l l) whole found ⊎ ElementAt (l .tables .arrays) 0 mask (agreeAt l l) found → ⊥
-    go false f p = let z : _≡_ {A = Reply} (refused both 24 0) (differs a e) = rw f at is in let y : _≡_ {A = ℕ} 0 1 = cc in omega arith
-    go true f (inl p) = let z : found ≡ differs a e = rw f at is in let y : _≡_ {A = ℕ} 0 1 = cc (p .is) in omega arith
-    go true f (inr p) = false≢true (sym (p .differ) ∙ agrees (p .a) (p .e))

@@ -1,20 +1,20 @@
 -- What `match_lists` answers.
 use mathlib.Core.Path.{_≡_, refl, sym, ap, _∙_, subst, subst₂}
-use mathlib.Core.Logic.{inl}
-use mathlib.Core.Bool.{Bool, true}
+use mathlib.Core.Logic.{inl, ⊎-elim}
+use mathlib.Core.Bool.{Bool, true, false}
 use mathlib.Core.List.{List, [], _++_}
 use Prim.Native.Nat.{ℕ, _+_, _≤_, _<_}
 use native.Mathlib.Omega.{arith}
 use lib.ListN.{length, getD, take, drop}
 use borrow.Author.Tests.{le-leb, lt-leb, lt-ltb}
-use Rattle.model.specs.Tables.{Array, cells, arrayAt, swapsAt}
+use Rattle.model.specs.Tables.{Array, cells, arrayAt, starts, swapsAt}
 use Rattle.model.specs.Update.{Tree, Listed}
 use Rattle.model.specs.Update.Tree.{cell}
 use Rattle.model.specs.Reply as model
 use Rattle.model.specs.Memory.{cleared}
 use Rattle.terms.specs.Term.{partsOfAll, termCount}
-use Rattle.terms.specs.Stored.{Stored, Outcome, full}
-use Rattle.terms.proofs.Sets.{in-left, after-grown, is-full, is-fine, over-more}
+use Rattle.terms.specs.Stored.{In, Stored, Grown, Outcome, full}
+use Rattle.terms.proofs.Sets.{in-none, in-left, in-either, after-grown, is-full, is-fine, over-more}
 use Rattle.terms.proofs.Members.{parts-append}
 use Rattle.terms.proofs.Laws.{empty}
 use Rattle.terms.proofs.Number.{too-many, count-right}
@@ -23,14 +23,15 @@ use Rattle.unroller.specs.Stands.{basesOf, HeaderAt, Stands}
 use Rattle.unroller.proofs.Parts.{both, within-high, TablesParts, list-parts, tables-whole}
 use Rattle.unroller.proofs.Stands.{bases-length, bases-step, proper-inside}
 use Rattle.comparer.specs.Meaning.{Content, after, free, values}
-use Rattle.comparer.specs.Match.{swapping, comparedSize, firstDifference, agreeAt, writtenTerms, matched}
+use Rattle.comparer.specs.Match.{swapping, given, comparedSize, firstDifference, agreeAt, writtenTerms, matched}
 use Rattle.comparer.specs.Matching.{Matches}
 use Rattle.comparer.specs.declared.reply.Reply.{Reply}
 use Rattle.comparer.specs.declared.reply.Reply.the-variants as reply
 use Rattle.comparer.specs.declared.reply.Side.the-variants as side
 use Rattle.comparer.specs.Work.{Operators, Table, slotOf, Shows, CellsHold, Applies}
-use Rattle.comparer.specs.Comparing.{Sums, FirstArray}
+use Rattle.comparer.specs.Comparing.{Sums, filled, final, FirstArray}
 use Rattle.comparer.proofs.SameTables.{compared-shared}
+use Rattle.comparer.proofs.Unwritten.{not-stored, given-is}
 use Rattle.comparer.proofs.Shared.{not-local-inside, shared-local, shared-array}
 use Rattle.comparer.proofs.Slots.{slot-in, cells-on, outcome-on}
 use Rattle.comparer.proofs.Sizes.{table-of}
@@ -88,6 +89,17 @@ module _ (mask : ℕ) (l r : Listed) where
 
   fine-reply : termCount (swapping l) (writtenTerms l r) ≤ 4096 → First ≡ matched mask l r
   fine-reply h = rw (le-leb (termCount (swapping l) (writtenTerms l r)) 4096 h)
+
+-- the store of both sides holds no cell of an array that does not start alike on both
+module _ (l r : Listed) (p : allowed l ≡ true) (q : allowed r ≡ true) (ts : List Tree) (G : Grown (swapping l) [] (partsOfAll (writtenTerms l r)) ts) where
+  none-stored : (a c : ℕ) → starts (arrayAt (l .tables .arrays) a) ≡ false → starts (arrayAt (r .tables .arrays) a) ≡ false → In (swapping l) (cell a c) ts → ⊥
+  none-stored a c e f i =
+      let lv = values (l .updates) cell in
+      let rv = values (r .updates) cell in
+      ⊎-elim (in-none (swapping l) (cell a c))
+      (λ j. ⊎-elim (not-stored (l .tables .arrays) (swapping l) a c (l .updates) (list-parts l p .reads) e)
+      (not-stored (r .tables .arrays) (swapping l) a c (r .updates) (list-parts r q .reads) f)
+      (in-either (swapping l) (cell a c) (partsOfAll lv) (partsOfAll rv) (subst (In (swapping l) (cell a c)) (parts-append lv rv) j))) (G .only (cell a c) i)
 
 -- ---- where nothing is to be shown
 module _ (left right : List ℕ) (mask : ℕ) (xs m : List ℕ) (x : Reply) where
@@ -169,20 +181,25 @@ module _ (left right : List ℕ) (mask : ℕ) (xs m lefts rights : List ℕ) (SL
         let ly : length ys ≡ 2048 = s ∙ first-long xs room in
         let lz : length zs ≡ 2048 = u ∙ ap length (second-part xs room ys s) ∙ second-long xs room in
         let y : 0 + comparedSize mask 0 (l .tables .arrays) ≡ comparedSize mask 0 (l .tables .arrays) = omega arith in
-        D (swapping l) (l .tables) (after free (l .updates) cell) (after free (r .updates) cell) (L .header) (tables-whole (l .tables) PL)
+        D (swapping l) (l .tables) (final l) (final r) (L .header) (tables-whole (l .tables) PL)
         (λ b j on.
         let f = compared-shared mask b (arrayAt (l .tables .arrays) b) on in
         let a = shared-array (l .tables .arrays) (r .tables .arrays) (PL .order) (PR .order) e b f in
         let t = not-local-inside (r .tables .arrays) b (shared-local (l .tables .arrays) (r .tables .arrays) (PL .order) (PR .order) e b f) in
+        let n : (c : ℕ) → starts (arrayAt (l .tables .arrays) b) ≡ false → In (swapping l) (cell b c) (F .0) → ⊥ = λ c g. none-stored l r p q (F .0) (F .2) b c g (ap starts a ∙ g) in
+        let ls = side-shows left lefts l (L .header) PL SL ys ly b j (swapping l) (F .0) (after free (l .updates) cell) (F .3 .0) in
+        let rs = side-shows right rights r (R .header) PR SR zs lz b t (swapping l) (F .0) (after free (r .updates) cell) (F .3 .1) in
         record {
           count = k;
           ts = F .0;
           stored = F .1;
           left-room = side-room left lefts l (L .header) PL SL ys ly b j;
           right-room = subst (λ (o : Array). getD rights b 0 + cells (o .extents) ≤ length zs) a (side-room right rights r (R .header) PR SR zs lz b t);
-          left-shows = side-shows left lefts l (L .header) PL SL ys ly b j (swapping l) (F .0) (after free (l .updates) cell) (F .3 .0);
-          right-shows = subst (λ (o : Array). (c : ℕ) → c < cells (o .extents) → Shows (swapping l) (F .0) (getD zs (getD rights b 0 + c) 0) (cell b c) (after free (r .updates) cell b c)) a
-              (side-shows right rights r (R .header) PR SR zs lz b t (swapping l) (F .0) (after free (r .updates) cell) (F .3 .1));
+          left-given = λ c g. given-is (l .tables .arrays) (swapping l) b c (l .updates) (list-parts l p .reads) (F .0) (getD ys (getD lefts b 0 + c) 0) (n c) (ls c g);
+          right-given = subst (λ (o : Array). (c : ℕ) → c < cells (o .extents) → given r b c ≡ filled (starts o) (getD zs (getD rights b 0 + c) 0)) a
+              (λ c g. given-is (r .tables .arrays) (swapping l) b c (r .updates) (list-parts r q .reads) (F .0) (getD zs (getD rights b 0 + c) 0) (λ d. n c (sym (ap starts a) ∙ d)) (rs c g));
+          left-shows = ls;
+          right-shows = subst (λ (o : Array). (c : ℕ) → c < cells (o .extents) → Shows (swapping l) (F .0) (getD zs (getD rights b 0 + c) 0) (cell b c) (after free (r .updates) cell b c)) a rs;
         })
         ∙ ap (λ (o : ℕ). firstDifference mask 0 (l .tables .arrays) (agreeAt l r) (model.equal o)) y
         ∙ fine-reply mask l r (omega arith)

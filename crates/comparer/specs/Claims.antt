@@ -4,12 +4,11 @@ use Prim.Native.Nat.{ℕ, _≤_, _<_}
 use mathlib.Core.Path.{_≡_}
 use mathlib.Core.Logic.{_⊎_, _↔_}
 use mathlib.Core.List.{List, map}
-use mathlib.Core.Bool.{Bool, true, false, _||_, not}
+use mathlib.Core.Bool.{Bool, true, false}
 use mathlib.Core.Option.{some}
 use lib.ListN.{length, getD, take}
 use lib.IntN.{ℤ, natAbs}
 use Rattle.model.specs.Test.{every}
-use Rattle.model.specs.Tables.{arrayAt, local}
 use Rattle.model.specs.Update.{Tree, Listed, written}
 use Rattle.model.specs.Reply.{Reply, equal, isRefused, Side, left, right, both}
 use Rattle.reader.specs.Field.{got}
@@ -66,13 +65,14 @@ abbrev pub Demand2Input : Type 1
 Demand2Input =
     (s : List ℕ) → isRefused (inputReply s) ≡ false → ToldOf allBits (λ p l. unrolled p ≡ ok l) (leftIn s) (rightIn s) (inputReply s)
 
--- What a new order keeps: accepted, as long; the same value in each non-local and each written cell, for every content and meaning;
+-- What a new order keeps: accepted, as long; for every meaning, and contents that are the same on in and inout arrays, the same value in
+-- each cell that is written or in which they are the same;
 -- the same reply beside any third slice, on either side, under any mask, with work memory of any lengths.
 pub record Kept (old new : List ℕ) (l k : Listed) : Type 1 where
   pub accepts : decode new ≡ some k
   pub size : length new ≡ length old
   pub leaves : (S : Type 0) (m : Meaning S) (h g : Content S) → Shared l h g → (a c : ℕ)
-      → (written (l .updates) a c || not (local (arrayAt (l .tables .arrays) a))) ≡ true → after m (k .updates) h a c ≡ after m (l .updates) g a c
+      → (written (l .updates) a c ≡ false → h a c ≡ g a c) → after m (k .updates) h a c ≡ after m (l .updates) g a c
   pub onLeft : (mask : ℕ) (third : List ℕ) (cells terms : ℕ) → wordsReply mask new third cells terms ≡ wordsReply mask old third cells terms
   pub onRight : (mask : ℕ) (third : List ℕ) (cells terms : ℕ) → wordsReply mask third new cells terms ≡ wordsReply mask third old cells terms
 
@@ -169,10 +169,6 @@ abbrev pub AlikeExactly : Type 1
 AlikeExactly =
     (swaps : ℕ → Bool) (t u : Tree)
     → (alike swaps t u ≡ true) ↔ ((S : Type 0) (m : Meaning S) → Respects swaps m → (h : Content S) → valueOf m t h ≡ valueOf m u h)
-
--- A list beside itself is never told apart.
-abbrev pub NeverApartFromItself : Type 0
-NeverApartFromItself = (mask : ℕ) (l : Listed) (a e : ℕ) → listsReply mask l l ≡ Reply.differs a e → ⊥
 
 -- The traced run's updates are the run's: of a program that unrolls, one executed statement for each update, in order.
 abbrev pub TracedUpdates : Type 0

@@ -3,8 +3,8 @@ use Prim.Native.Nat.{ℕ, zero, suc, _+_, _/_, _%_, _^_}
 use mathlib.Core.List.{List, [], _∷_, _++_}
 use mathlib.Core.Bool.{Bool, true, false, _&&_, _||_, cond}
 use lib.Dec.{leb, eqb}
-use Rattle.model.specs.Tables.{Array, Tables, cells, local, swapsAt}
-use Rattle.model.specs.Update.{Tree, Update, Listed}
+use Rattle.model.specs.Tables.{Array, Tables, cells, arrayAt, local, starts, swapsAt}
+use Rattle.model.specs.Update.{Tree, Update, Listed, written}
 use Rattle.model.specs.Update.Tree.{cell}
 use Rattle.model.specs.Reply.{Reply, equal, differs, refused, both}
 use Rattle.terms.specs.Term.{alike, termCount}
@@ -38,9 +38,13 @@ firstDifference mask a (x ∷ xs) agree otherwise =
 abbrev pub swapping : Listed → ℕ → Bool
 swapping l = swapsAt (l .tables .operators)
 
--- both lists leave terms in this element that are alike; started from `cell`, each cell holds its own starting term
+-- the list gives this element: it lies in an in or inout array, which starts alike on both sides, or an update writes it
+abbrev pub given : Listed → ℕ → ℕ → Bool
+given l a c = starts (arrayAt (l .tables .arrays) a) || written (l .updates) a c
+
+-- both lists give this element, and leave terms in it that are alike; started from `cell`, each cell holds its own starting term
 abbrev pub agreeAt : Listed → Listed → ℕ → ℕ → Bool
-agreeAt l r a c = alike (swapping l) (after free (l .updates) cell a c) (after free (r .updates) cell a c)
+agreeAt l r a c = given l a c && (given r a c && alike (swapping l) (after free (l .updates) cell a c) (after free (r .updates) cell a c))
 
 -- the terms written on either side
 abbrev pub writtenTerms : Listed → Listed → List Tree

@@ -34,7 +34,7 @@ starred =
     ∷ row L (set (set L 29 1) 31 255) "differs 1 0"
     ∷ row L (set L 18 0) "differs 1 1"
     ∷ row L (set L 16 1) "differs 1 0"
-    ∷ row (set L 16 2) (set L 16 2) "equal 2"
+    ∷ row (set L 16 2) (set L 16 2) "differs 1 0"
     ∷ row L (set L 16 2) "differs 1 0"
     ∷ rowAny (set L 20 0) "refused left 11 20"
     ∷ rowAny (set L 18 2) "refused left 16 22"

@@ -2,8 +2,8 @@
 use Prim.Native.Nat.{ℕ, _<_}
 use mathlib.Core.Path.{_≡_}
 use mathlib.Core.Logic.{_⊎_, _↔_}
-use mathlib.Core.Bool.{true, false, _&&_}
-use Rattle.model.specs.Tables.{arrayAt, local, inside}
+use mathlib.Core.Bool.{true, _&&_}
+use Rattle.model.specs.Tables.{arrayAt, starts, inside}
 use Rattle.model.specs.Update.{Listed}
 use Rattle.model.specs.Reply.{Reply, equal, differs}
 use Rattle.comparer.specs.Meaning.{Meaning, Respects, Content, after}
@@ -13,9 +13,9 @@ use Rattle.comparer.specs.Match.{compared, comparedSize, swapping}
 abbrev pub Compared : ℕ → Listed → ℕ → ℕ → Type 0
 Compared mask l a e = (compared mask a (arrayAt (l .tables .arrays) a) && inside (l .tables .arrays) a e) ≡ true
 
--- two starting contents, one for each side, the same on all non-local arrays
+-- two starting contents, one for each side, the same on all in and inout arrays; of out and local arrays each side has contents of its own
 abbrev pub Shared : {S : Type 0} → Listed → Content S → Content S → Type 0
-Shared l h k = (a c : ℕ) → local (arrayAt (l .tables .arrays) a) ≡ false → h a c ≡ k a c
+Shared l h k = (a c : ℕ) → starts (arrayAt (l .tables .arrays) a) ≡ true → h a c ≡ k a c
 
 -- For every starting content, and every meaning in which each operator that may swap gives the same result for both orders of its arguments,
 -- both sides leave the same value in this element.

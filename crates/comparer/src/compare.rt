@@ -11,11 +11,18 @@ use terms::Start;
 ghost use mathlib.Core.Path.{_≡_};
 ghost use Prim.Native.Nat.{_+_, _*_, _≤_, _<_};
 ghost use lib.ListN.{length};
-ghost use lib.Dec.{leb};
+ghost use lib.Dec.{eqb, leb};
 ghost use Rattle.terms.specs.Stored.{Starts};
-ghost use Rattle.comparer.specs.Comparing.{comparedAt, extentOrOne, sizeAt, Sums, Agrees, FirstCell, FirstArray};
+ghost use Rattle.comparer.specs.Comparing.{roleAt, comparedAt, extentOrOne, sizeAt, Sums, Agrees, BothGiven, FirstCell, FirstArray};
 ghost use Rattle.comparer.specs.Matching.{Matches};
 ghost use Rattle.model.specs.Memory.{headerWords};
+
+fn role_of(list: &[u32], array: usize) -> u32
+    requires { ⌜ (headerWords ≤ length (now list)) × (array < 16) ⌝ }
+    ensures { λ r. ⌜ r ≡ roleAt (now (list .entry)) array ⌝ }
+{
+    list[18 + 5 * array]
+}
 
 // An out or inout array whose bit is set.
 fn is_compared(list: &[u32], mask: u16, array: usize) -> bool
@@ -26,7 +33,7 @@ fn is_compared(list: &[u32], mask: u16, array: usize) -> bool
     if bits % 2 != 1 {
         return false;
     }
-    let role = list[18 + 5 * array];
+    let role = role_of(list, array);
     if role == 1 {
         return true;
     }
@@ -100,6 +107,20 @@ fn agrees(terms: &[u32], x: u32, y: u32, a: u32, c: u32) -> bool
     false
 }
 
+// Whether a compared element has the same value on both sides. An inout array starts alike on both. Of an out array each side has contents
+// of its own, so both must have written the element; the slot of one that is not written is 0, since nothing read it.
+fn same_value(terms: &[u32], role: u32, left: u32, right: u32, a: u32, c: u32) -> bool
+    ensures { λ b. ⌜ BothGiven (now (terms .entry)) (eqb role 2) left right a c b ⌝ }
+{
+    if role == 2 {
+        return agrees(terms, left, right, a, c);
+    }
+    if left == 0 {
+        return false;
+    }
+    left == right
+}
+
 fn fits(from: usize, size: usize, room: usize) -> bool
     ensures { λ r. ⌜ r ≡ leb (from + size) room ⌝ }
 {
@@ -114,13 +135,14 @@ fn first_cell(
     left: &[u32],
     right: &[u32],
     terms: &[u32],
+    role: u32,
     p: usize,
     q: usize,
     array: usize,
     size: usize,
 ) -> usize
     requires { ⌜ (array < 16) × (size ≤ 1073741824) ⌝ }
-    ensures { λ d. ⌜ FirstCell (now (left .entry)) (now (right .entry)) (now (terms .entry)) p q array size 0 d ⌝ }
+    ensures { λ d. ⌜ FirstCell (now (left .entry)) (now (right .entry)) (now (terms .entry)) (eqb role 2) p q array size 0 d ⌝ }
 {
     if !fits(p, size, left.len()) {
         return 0;
@@ -130,7 +152,9 @@ fn first_cell(
     }
     let mut c: usize = 0;
     while c < size {
-        if !agrees(terms, left[p + c], right[q + c], array as u32, c as u32) {
+        let x = left[p + c];
+        let y = right[q + c];
+        if !same_value(terms, role, x, y, array as u32, c as u32) {
             return c;
         }
         c += 1;
@@ -161,7 +185,8 @@ fn first_array(
     while a < count {
         if is_compared(list, mask, a) {
             let size = size_of(list, a);
-            let c = first_cell(left, right, terms, lefts[a], rights[a], a, size);
+            let role = role_of(list, a);
+            let c = first_cell(left, right, terms, role, lefts[a], rights[a], a, size);
             if c < size {
                 return Reply::Differs(a, c);
             }

@@ -35,6 +35,9 @@ is-compared-requires c κs = search needs
 size-of-requires : tie.Need-size-of-requires Inv-loop μ-loop
 size-of-requires c κs = search needs
 
+role-of-requires : tie.Need-role-of-requires Inv-loop μ-loop
+role-of-requires c κs = search needs
+
 mul-first-cell : tie.Need-mul-first-cell Inv-loop μ-loop
 mul-first-cell c = search needs
 
@@ -51,10 +54,10 @@ first-cell-requires : tie.Need-first-cell-requires Inv-loop μ-loop
 first-cell-requires c κs = search needs
 
 returns-2 : tie.Need-returns-2 Inv-loop μ-loop
-returns-2 c = c .before .before .before .before .before .before .before .before .loop .inv .3 _ (array-differs _ _ _ _ _ _ _ _ (c .before .before .before .before .before .before .before .before .before .before .wide .ensures) _ _ (c .before .before .before .before .before .before .before .loop-test .taken) (sym (c .before .before .before .before .before .if2 .taken) ∙ c .before .before .before .before .before .before .is-compared .ensures) _ (c .before .before .before .before .size-of .ensures .0) _ (c .before .first-cell .ensures) (c .if3 .taken))
+returns-2 c = c .before .before .before .before .before .before .before .before .before .loop .inv .3 _ (array-differs _ _ _ _ _ _ _ _ (c .before .before .before .before .before .before .before .before .before .before .before .wide .ensures) _ _ (c .before .before .before .before .before .before .before .before .loop-test .taken) (sym (c .before .before .before .before .before .before .if2 .taken) ∙ c .before .before .before .before .before .before .before .is-compared .ensures) _ (c .before .before .before .before .before .size-of .ensures .0) _ (c .before .before .before .before .role-of .ensures) _ (c .before .first-cell .ensures) (c .if3 .taken))
 
 add-sum : tie.Need-add-sum Inv-loop μ-loop
-add-sum c = omega (arith, c .before .before .before .before .before .before .before .before .loop .inv .1, c .before .before .before .before .before .before .before .before .loop .inv .2, c .before .before .before .before .size-of .ensures .1)
+add-sum c = omega (arith, c .before .before .before .before .before .before .before .before .before .loop .inv .1, c .before .before .before .before .before .before .before .before .before .loop .inv .2, c .before .before .before .before .before .size-of .ensures .1)
 
 add-a : tie.Need-add-a Inv-loop μ-loop
 add-a c = search needs
@@ -67,10 +70,10 @@ loop-again c = ⊎-elim
     (λ w. (
       omega arith,
       omega arith,
-      omega (arith, w .6, w .1 .ensures .1),
+      omega (arith, w .7, w .1 .ensures .1),
       λ x F. c .before .before .before .loop .inv .3 x
-          (array-more (c .before .before .before .before .before .before .before .before .before .before .before .args .list .now) (c .before .before .before .before .before .before .before .before .before .before .before .args .mask) (c .before .before .before .before .before .before .before .before .before .before .before .args .lefts .now) (c .before .before .before .before .before .before .before .before .before .before .before .args .rights .now) (c .before .before .before .before .before .before .before .before .before .before .before .args .left .now) (c .before .before .before .before .before .before .before .before .before .before .before .args .right .now) (c .before .before .before .before .before .before .before .before .before .before .before .args .terms .now) _ (c .before .before .before .before .before .wide .ensures) (c .before .before .before .loop .a) (c .before .before .before .loop .sum) (c .before .before .loop-test .taken) (sym (w .0 .taken) ∙ c .before .is-compared .ensures) _ (w .1 .ensures .0) _ (w .4 .ensures) (w .5 .left) x
-          (subst (λ (k : ℕ). FirstArray (c .before .before .before .before .before .before .before .before .before .before .before .args .list .now) (c .before .before .before .before .before .before .before .before .before .before .before .args .mask) (c .before .before .before .before .before .before .before .before .before .before .before .args .lefts .now) (c .before .before .before .before .before .before .before .before .before .before .before .args .rights .now) (c .before .before .before .before .before .before .before .before .before .before .before .args .left .now) (c .before .before .before .before .before .before .before .before .before .before .before .args .right .now) (c .before .before .before .before .before .before .before .before .before .before .before .args .terms .now) (c .before .before .before .loop .a + 1) k x) (let e : c .if2 .sum ≡ c .before .before .before .loop .sum + w .1 .result = omega (arith, w .6) in e) F)),
+          (array-more (c .before .before .before .before .before .before .before .before .before .before .before .args .list .now) (c .before .before .before .before .before .before .before .before .before .before .before .args .mask) (c .before .before .before .before .before .before .before .before .before .before .before .args .lefts .now) (c .before .before .before .before .before .before .before .before .before .before .before .args .rights .now) (c .before .before .before .before .before .before .before .before .before .before .before .args .left .now) (c .before .before .before .before .before .before .before .before .before .before .before .args .right .now) (c .before .before .before .before .before .before .before .before .before .before .before .args .terms .now) _ (c .before .before .before .before .before .wide .ensures) (c .before .before .before .loop .a) (c .before .before .before .loop .sum) (c .before .before .loop-test .taken) (sym (w .0 .taken) ∙ c .before .is-compared .ensures) _ (w .1 .ensures .0) _ (w .2 .ensures) _ (w .5 .ensures) (w .6 .left) x
+          (subst (λ (k : ℕ). FirstArray (c .before .before .before .before .before .before .before .before .before .before .before .args .list .now) (c .before .before .before .before .before .before .before .before .before .before .before .args .mask) (c .before .before .before .before .before .before .before .before .before .before .before .args .lefts .now) (c .before .before .before .before .before .before .before .before .before .before .before .args .rights .now) (c .before .before .before .before .before .before .before .before .before .before .before .args .left .now) (c .before .before .before .before .before .before .before .before .before .before .before .args .right .now) (c .before .before .before .before .before .before .before .before .before .before .before .args .terms .now) (c .before .before .before .loop .a + 1) k x) (let e : c .if2 .sum ≡ c .before .before .before .loop .sum + w .1 .result = omega (arith, w .7) in e) F)),
     ))
     (λ w. (
       omega arith,
@@ -97,6 +100,7 @@ first-array-spec =
     loop-holds
     is-compared-requires
     size-of-requires
+    role-of-requires
     mul-first-cell
     element-copy-out-first-cell
     mul-first-cell-2

@@ -10,23 +10,14 @@ shr-bits c = search needs
 returns : tie.Need-returns
 returns c = compared-off _ _ _ (λ e. let h = c .if1 .taken in omega arith)
 
-mul-role : tie.Need-mul-role
-mul-role c = search needs
-
-add-role : tie.Need-add-role
-add-role c = search needs
-
-mul-role-2 : tie.Need-mul-role-2
-mul-role-2 c = search needs
-
-shared-slice-read-role : tie.Need-shared-slice-read-role
-shared-slice-read-role c = search needs
+role-of-requires : tie.Need-role-of-requires
+role-of-requires c κs = search needs
 
 returns-2 : tie.Need-returns-2
-returns-2 c = compared-out _ _ _ (omega (arith, c .before .before .if1 .left)) (c .if2 .taken)
+returns-2 c = compared-out _ _ _ _ (c .before .role-of .ensures) (omega (arith, c .before .before .if1 .left)) (c .if2 .taken)
 
 returns-3 : tie.Need-returns-3
-returns-3 c = compared-inout _ _ _ (omega (arith, c .before .before .if1 .left)) (c .if2 .left)
+returns-3 c = compared-inout _ _ _ _ (c .before .role-of .ensures) (omega (arith, c .before .before .if1 .left)) (c .if2 .left)
 
 pub is-compared-spec : {M : Type 1} → statement M
 is-compared-spec =
@@ -34,9 +25,6 @@ is-compared-spec =
     (tie.spec
     shr-bits
     returns
-    mul-role
-    add-role
-    mul-role-2
-    shared-slice-read-role
+    role-of-requires
     returns-2
     returns-3)
