@@ -6,10 +6,11 @@ use Rattle.model.specs.Reply.{isRefused, equal}
 use Rattle.comparer.specs.Entry.{programsReply, allBits, leftIn, rightIn, inputReply}
 use Rattle.comparer.specs.Line.{lineOf}
 use Rattle.comparer.specs.Rows.{Row, framed, starred}
-use Rattle.comparer.specs.Claims.{ToldOf}
+use Rattle.comparer.specs.Claims.{ToldOf, Beside}
 use Rattle.comparer.specs.Answers.{replySays}
-use Rattle.comparer.specs.Carried.{ListsAnswered, ProgramsAnswered, ReorderedAnswered, InputAnswered, EqualAnswered, StarredAnswered}
+use Rattle.comparer.specs.Carried.{ListsAnswered, ProgramsAnswered, ReorderedAnswered, BesideAnswered, InputAnswered, EqualAnswered, StarredAnswered}
 use Rattle.comparer.proofs.Theorems.{entered, demand2-words, demand2-programs, demand3}
+use Rattle.comparer.proofs.Itself.{beside-itself-words}
 use Rattle.comparer.proofs.Input.{demand2-input, same-values}
 use Rattle.comparer.proofs.Table.{starred-rows}
 use Rattle.comparer.proofs.Writing.{line-text}
@@ -26,6 +27,11 @@ pub reordered-answered : ReorderedAnswered
 reordered-answered old l e order h mask third cells terms r q =
     let k = demand3 old l e order h in
     (λ a b. a ∙ k .onLeft mask third cells terms ∙ sym b, λ a b. a ∙ k .onRight mask third cells terms ∙ sym b)
+
+pub beside-answered : BesideAnswered
+beside-answered old l e order h mask cells terms n r =
+    let b = beside-itself-words old l e order h mask cells terms n in
+    (λ q. subst (Beside mask l) (sym q) (b .0), λ q. subst (Beside mask l) (sym q) (b .1))
 
 pub input-answered : InputAnswered
 input-answered long s r e n =

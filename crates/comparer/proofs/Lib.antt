@@ -9,6 +9,7 @@ pub mod Reorder
 pub mod Positions
 pub mod KeptLists
 pub mod Theorems
+pub mod Itself
 pub mod Input
 pub mod Table
 pub mod Examples

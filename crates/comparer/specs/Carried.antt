@@ -14,13 +14,13 @@ use Rattle.unroller.specs.Decode.{decode}
 use Rattle.unroller.specs.Unroll.{unrolled}
 use Rattle.unroller.specs.Executed.{Origin}
 use Rattle.unroller.specs.Traced.{stretchOf, WrittenAt}
-use Rattle.comparer.specs.Entry.{entryReply, wordsReply, programsReply, allBits, leftIn, rightIn, inputReply}
+use Rattle.comparer.specs.Entry.{enough, entryReply, wordsReply, programsReply, allBits, leftIn, rightIn, inputReply}
 use Rattle.comparer.specs.Explain.{explanation}
 use Rattle.comparer.specs.Line.{lineOf}
 use Rattle.comparer.specs.Writing.{Holds}
 use Rattle.comparer.specs.Order.{NewOrder, reorder}
 use Rattle.comparer.specs.Rows.{Row, framed, starred}
-use Rattle.comparer.specs.Claims.{ToldOf, SameValues}
+use Rattle.comparer.specs.Claims.{ToldOf, Beside, SameValues}
 use Rattle.comparer.specs.Answers.{replySays}
 use Rattle.comparer.specs.ExplainAnswers.{chosenSays, chosenOf, explanationSays, Part, IsPart}
 use Rattle.comparer.specs.declared.explanation.Chosen.{Chosen}
@@ -48,6 +48,14 @@ ReorderedAnswered =
     (old : List ℕ) (l : Listed) → decode old ≡ some l → (order : List ℕ) → NewOrder (l .updates) order → (mask : ℕ) (third : List ℕ) (cells terms : ℕ) (r q : Reply)
     → ((replySays r ≡ wordsReply mask (layout (reorder l order) (length old)) third cells terms → replySays q ≡ wordsReply mask old third cells terms → replySays r ≡ replySays q)
     × (replySays r ≡ wordsReply mask third (layout (reorder l order) (length old)) cells terms → replySays q ≡ wordsReply mask third old cells terms → replySays r ≡ replySays q))
+
+-- A list beside a new order of itself, for what `compare_lists` answers: on either side, in slices that are long enough.
+abbrev pub BesideAnswered : Type 0
+BesideAnswered =
+    (old : List ℕ) (l : Listed) → decode old ≡ some l → (order : List ℕ) → NewOrder (l .updates) order → (mask cells terms : ℕ) → enough (length old) (length old) cells terms ≡ true
+    → (r : Reply)
+    → (replySays r ≡ wordsReply mask old (layout (reorder l order) (length old)) cells terms → Beside mask l (replySays r))
+    × (replySays r ≡ wordsReply mask (layout (reorder l order) (length old)) old cells terms → Beside mask l (replySays r))
 
 -- Demand 2, for what `compare_input` answers.
 abbrev pub InputAnswered : Type 1

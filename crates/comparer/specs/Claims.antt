@@ -10,11 +10,12 @@ use lib.ListN.{length, getD, take}
 use lib.IntN.{ℤ, natAbs}
 use Rattle.model.specs.Test.{every}
 use Rattle.model.specs.Update.{Tree, Listed, written}
-use Rattle.model.specs.Reply.{Reply, equal, isRefused, Side, left, right, both}
+use Rattle.model.specs.Update.Tree.{cell}
+use Rattle.model.specs.Reply.{Reply, equal, differs, refused, isRefused, Side, left, right, both}
 use Rattle.reader.specs.Field.{got}
 use Rattle.reader.specs.Syntax.{Form, Program}
 use Rattle.reader.specs.Grammar.{readProgram}
-use Rattle.terms.specs.Term.{alike}
+use Rattle.terms.specs.Term.{alike, termCount}
 use Rattle.unroller.specs.Run.{ok, valueAt, signed, fits16, indices, runProgram}
 use Rattle.unroller.specs.Allowed.{fits32, allowed}
 use Rattle.unroller.specs.Layout.{layout}
@@ -24,14 +25,14 @@ use Rattle.unroller.specs.Fits.{narrow}
 use Rattle.unroller.specs.Asking as Asking
 use Rattle.unroller.specs.Executed.{Origin}
 use Rattle.unroller.specs.Traced.{Traced, WrittenAt}
-use Rattle.comparer.specs.Meaning.{Meaning, Respects, Content, valueOf, after, free}
-use Rattle.comparer.specs.Match.{comparedSize, listsReply}
-use Rattle.comparer.specs.Entry.{entryReply, wordsReply, sideReply, programsReply, allBits, leftIn, rightIn, inputReply}
+use Rattle.comparer.specs.Meaning.{Meaning, Respects, Content, valueOf, after, free, values}
+use Rattle.comparer.specs.Match.{comparedSize, swapping, given, listsReply}
+use Rattle.comparer.specs.Entry.{enough, entryReply, wordsReply, sideReply, programsReply, allBits, leftIn, rightIn, inputReply}
 use Rattle.comparer.specs.Explain as Explain
 use Rattle.comparer.specs.Explain.{Chosen, chosen, Explanation, plain, explained, explanation, inputExplanation}
 use Rattle.comparer.specs.Line.{lineOf}
 use Rattle.comparer.specs.ExplainLine.{explanationLine}
-use Rattle.comparer.specs.Told.{Compared, Shared, Agree, Told}
+use Rattle.comparer.specs.Told.{Compared, Shared, Agree, Earlier, Told}
 use Rattle.comparer.specs.Order.{NewOrder, reorder}
 use Rattle.comparer.specs.Rows.{Row, framed, starred, marked, ExplainedRow, explainedPairs}
 
@@ -169,6 +170,41 @@ abbrev pub AlikeExactly : Type 1
 AlikeExactly =
     (swaps : ℕ → Bool) (t u : Tree)
     → (alike swaps t u ≡ true) ↔ ((S : Type 0) (m : Meaning S) → Respects swaps m → (h : Content S) → valueOf m t h ≡ valueOf m u h)
+
+-- the different terms that the list writes, with their parts
+abbrev pub ownTerms : Listed → ℕ
+ownTerms l = termCount (swapping l) (values (l .updates) cell)
+
+-- every compared out element is written
+abbrev pub AllGiven : ℕ → Listed → Type 0
+AllGiven mask l = (a e : ℕ) → Compared mask l a e → given l a e ≡ true
+
+-- the first compared out element that is not written
+pub record FirstMissing (mask : ℕ) (l : Listed) (a e : ℕ) : Type 0 where
+  pub here : Compared mask l a e
+  pub missing : given l a e ≡ false
+  pub before : (b d : ℕ) → Compared mask l b d → Earlier b d a e → given l b d ≡ true
+
+-- A reply to a list beside a new order of itself: 24 exactly if the list has too many terms; if not, "equal" exactly if every
+-- compared out element is written, else "differs" at the first that is not.
+pub record Beside (mask : ℕ) (l : Listed) (reply : Reply) : Type 0 where
+  pub many : (reply ≡ refused both 24 0) ↔ (4096 < ownTerms l)
+  pub whole : (n : ℕ) → (reply ≡ equal n) ↔ ((ownTerms l ≤ 4096) × (n ≡ comparedSize mask 0 (l .tables .arrays)) × AllGiven mask l)
+  pub part : (a e : ℕ) → (reply ≡ differs a e) ↔ ((ownTerms l ≤ 4096) × FirstMissing mask l a e)
+
+-- A list beside a new order of itself, on either side; the old order is one of them.
+abbrev pub BesideItself : Type 0
+BesideItself =
+    (mask : ℕ) (l : Listed) (order : List ℕ) → NewOrder (l .updates) order
+    → Beside mask l (listsReply mask l (reorder l order)) × Beside mask l (listsReply mask (reorder l order) l)
+
+-- The same at the list entry, for words that are accepted, in slices that are long enough.
+abbrev pub BesideItselfWords : Type 0
+BesideItselfWords =
+    (old : List ℕ) (l : Listed) → decode old ≡ some l → (order : List ℕ) → NewOrder (l .updates) order
+    → (mask cells terms : ℕ) → enough (length old) (length old) cells terms ≡ true
+    → Beside mask l (wordsReply mask old (layout (reorder l order) (length old)) cells terms)
+    × Beside mask l (wordsReply mask (layout (reorder l order) (length old)) old cells terms)
 
 -- The traced run's updates are the run's: of a program that unrolls, one executed statement for each update, in order.
 abbrev pub TracedUpdates : Type 0
