@@ -2,8 +2,8 @@
 use Prim.Native.Nat.{ℕ, _≤_}
 use mathlib.Core.Path.{_≡_, refl, sym, ap, _∙_, subst}
 use mathlib.Core.Logic.{inl, inr}
-use mathlib.Core.List.{List, []}
-use mathlib.Core.Bool.{Bool, true, false, _&&_}
+use mathlib.Core.List.{List, [], _∷_, _++_}
+use mathlib.Core.Bool.{Bool, true, false, _&&_, true≢false, or-true}
 use mathlib.Core.Option.{Option, none, some}
 use native.Mathlib.Omega.{arith}
 use lib.ListN.{length, take, drop, length-drop}
@@ -13,7 +13,7 @@ use lib.IntN.{pos}
 use borrow.Author.Tests.{le-leb, leb-true}
 use denote.Ref.{RefT, now}
 use Rattle.model.specs.Test.{if_then_else_}
-use Rattle.model.specs.Update.{Listed, written}
+use Rattle.model.specs.Update.{Update, Listed, writes, written}
 use Rattle.model.specs.Reply.{Side, left, both, input, Reply, equal, differs, refused}
 use Rattle.reader.specs.Field.{littleEndian}
 use Rattle.reader.proofs.Lists.{take-padded}
@@ -25,7 +25,7 @@ use Rattle.unroller.proofs.Executed.{traces, written-at, never-written}
 use Rattle.comparer.specs.Entry.{entryReply, programsReply, allBits, leftIn, rightIn, inputReply}
 use Rattle.comparer.specs.Explain as Explain
 use Rattle.comparer.specs.Explain.{Chosen, rightSide, chosen, Answer, Explanation, plain, explained, byReply, explanation, inputExplanation}
-use Rattle.comparer.specs.Claims.{TracedUpdates, WrittenIs, WrittenExplained, StartingIs, StartingExplained, RefusedExplained, InputExplained, ExplainedCut}
+use Rattle.comparer.specs.Claims.{TracedUpdates, WrittenIs, WrittenExplained, StartingIs, StartingExplained, UnwrittenExplained, RefusedExplained, InputExplained, ExplainedCut}
 use Rattle.comparer.specs.ExplainAnswers.{chosenSays, chosenOf, answerSays, explanationSays, inside, Part, IsPart}
 use Rattle.comparer.specs.Carried.{WrittenAnswered, OtherAnswered}
 use Rattle.comparer.specs.declared.explanation.Chosen as code
@@ -95,6 +95,20 @@ starting-explained long mask side l r a e h =
         subst (λ (a : ℕ). StartingIs mask side l r a e (explanation long mask side l r)) f
         (subst (λ (e : ℕ). StartingIs mask side l r b e (explanation long mask side l r)) g
         (record { differ = q; list = u .0; unrolls = u .1; never = never-written (chosen side l r) (u .0) (u .1) b c i; handed = x }))
+
+written-here : (xs : List Update) (u : Update) (ys : List Update) (a e : ℕ) → writes u a e ≡ true → written (xs ++ u ∷ ys) a e ≡ true
+written-here [] u ys a e w = rw w
+written-here (x ∷ xs) u ys a e w = rw (written-here xs u ys a e w) (or-true (writes x a e))
+
+pub unwritten-explained : UnwrittenExplained
+unfolding explanation
+unwritten-explained mask side l r a e list d u never = go (originOf (chosen side l r) a e) refl
+  where
+    go : (o : Option Origin) → originOf (chosen side l r) a e ≡ o → byReply (originOf (chosen side l r)) (entryReply true (programsReply mask l r)) ≡ plain (Explain.starting a e)
+    go none i = rw (d, i)
+    go (some o) i =
+        let w = written-at (chosen side l r) list u a e o i .last in
+        absurd (true≢false (sym (written-here (w .earlier) (w .update) (w .later) a e (w .writes-it)) ∙ sym (ap (λ (us : List Update). written us a e) (w .made)) ∙ never))
 
 pub refused-explained : RefusedExplained
 refused-explained long mask side l r s k p h =

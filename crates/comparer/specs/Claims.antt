@@ -238,6 +238,12 @@ StartingExplained =
     (long : Bool) (mask : ℕ) (side : Chosen) (one other : List ℕ) (a e : ℕ) → explanation long mask side one other .answer ≡ Explain.starting a e
     → StartingIs mask side one other a e (explanation long mask side one other)
 
+-- And there it is the answer: where both sides differ at an element that no update of the chosen side writes.
+abbrev pub UnwrittenExplained : Type 0
+UnwrittenExplained =
+    (mask : ℕ) (side : Chosen) (one other : List ℕ) (a e : ℕ) (l : Listed) → programsReply mask one other ≡ differs a e → unrolled (chosen side one other) ≡ ok l
+    → written (l .updates) a e ≡ false → explanation true mask side one other ≡ plain (Explain.starting a e)
+
 -- A refusal is the comparison's, or 27 where that says "equal"; it hands over nothing.
 abbrev pub RefusedExplained : Type 0
 RefusedExplained =

@@ -77,5 +77,7 @@ explainedPairs =
     ∷ explains L (set (set L 29 1) 31 255) rightSide "written 1 0 22 32 0"
     ∷ explains L (set L 18 0) leftSide "written 1 1 22 32 1"
     ∷ explains L (set L 18 0) rightSide "starting 1 1"
+    ∷ explains (set L 16 2) (set L 16 2) leftSide "starting 1 0"
+    ∷ explains (set L 16 2) (set L 16 2) rightSide "starting 1 0"
     ∷ explains L L leftSide "refused both 27 0"
     ∷ explains (set L 18 2) L rightSide "refused left 16 22" ∷ []
