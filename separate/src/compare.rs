@@ -5,8 +5,8 @@ use crate::list::{self, decode, List, Record, HEADER};
 use crate::read::read_program;
 use crate::reply::{Question, Refusal, Reply, Side};
 use crate::run::run;
-use crate::tables::{self, Tables};
-use crate::terms::{self, Store};
+use crate::tables::{self, Role, Tables};
+use crate::terms::{self, Store, Term};
 
 /// Every bit set: the mask of the plain entry.
 pub const ALL: u16 = u16::MAX;
@@ -262,19 +262,35 @@ fn first_difference(
         let first = tables.first_cell(array);
         let size = declared.cells();
         let (left, right) = (&left[first..first + size], &right[first..first + size]);
-        for (cell, (&left, &right)) in left.iter().zip(right).enumerate() {
-            if !same_value(array, cell, left, right, store) {
-                return Reply::Differs { array, cell };
-            }
+        if let Some(cell) = unlike_cell(array, declared.role, left, right, store) {
+            return Reply::Differs { array, cell };
         }
         count += size;
     }
     Reply::Equal { count }
 }
 
-/// A cell that holds 0 still has its starting contents.
-fn same_value(array: usize, cell: usize, left: u32, right: u32, store: &Store) -> bool {
-    let start = || terms::start(array as u32, cell as u32);
+/// The first cell in which a compared array differs. Starting contents of an
+/// out array are each side's own and like no value, so a cell that either side
+/// left unwritten differs. It holds 0, since nothing reads it before a write.
+fn unlike_cell(
+    array: usize,
+    role: Role,
+    left: &[u32],
+    right: &[u32],
+    store: &Store,
+) -> Option<usize> {
+    let mut cells = left.iter().zip(right).enumerate();
+    if role.starts_alike() {
+        let start = |cell: usize| terms::start(array as u32, cell as u32);
+        cells.position(|(cell, (&left, &right))| !same_value(|| start(cell), left, right, store))
+    } else {
+        cells.position(|(_, (&left, &right))| left == 0 || left != right)
+    }
+}
+
+/// In a cell that starts alike on both sides, 0 stands for its starting term.
+fn same_value(start: impl FnOnce() -> Term, left: u32, right: u32, store: &Store) -> bool {
     match (left, right) {
         (left, right) if left == right => true,
         (0, held) | (held, 0) => store.is(held - 1, start()),

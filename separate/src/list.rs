@@ -233,7 +233,7 @@ impl<'a> Walk<'a> {
         match first {
             code::READ => {
                 let (role, cell) = self.cell(second, third)?;
-                (role.readable_at_start() || self.written[cell]).then_some(())
+                (role.starts_alike() || self.written[cell]).then_some(())
             }
             code::LITERAL | code::CONSTANT => (third == 0).then_some(()),
             _ => None,

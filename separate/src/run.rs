@@ -211,7 +211,6 @@ impl<'a, W: Watch> Run<'a, W> {
 
     fn readable(&self, array: usize, cell: usize) -> bool {
         let tables = &self.program.tables;
-        tables.arrays()[array].role.readable_at_start()
-            || self.written[tables.first_cell(array) + cell]
+        tables.arrays()[array].role.starts_alike() || self.written[tables.first_cell(array) + cell]
     }
 }

@@ -29,8 +29,10 @@ impl Role {
         self as u8
     }
 
-    /// Only cells of in and inout arrays may be read before they are written.
-    pub fn readable_at_start(self) -> bool {
+    /// In and inout arrays start with the same contents on both sides. Out and
+    /// local ones have contents of each side's own there, so their cells may be
+    /// read only after they are written.
+    pub fn starts_alike(self) -> bool {
         matches!(self, Role::In | Role::Inout)
     }
 

@@ -58,9 +58,9 @@ fn write(target: usize, value: Expression) -> Item {
 }
 
 fn program(items: Vec<Item>) -> Vec<u8> {
-    let out = Declaration { role: Role::Out, extents: vec![1] };
-    let operators = OPERATORS.to_vec();
-    encode(&Source { version: None, operators, arrays: vec![out.clone(), out], items }).bytes
+    let arrays = [Role::Out, Role::Inout].map(|role| Declaration { role, extents: vec![1] });
+    let (operators, arrays) = (OPERATORS.to_vec(), arrays.to_vec());
+    encode(&Source { version: None, operators, arrays, items }).bytes
 }
 
 fn line(work: &mut Work, left: &[u8], right: &[u8]) -> String {

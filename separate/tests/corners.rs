@@ -353,7 +353,7 @@ fn equal_terms_of_both_sides_count_once() {
 
 #[test]
 fn unwritten_beside_written() {
-    let head = "op f/1 array A inout [2] array B out [1]";
+    let head = "op f/1 array A inout [2] array B inout [1]";
     let text = |items: &str| format!("{head} {items}");
     assert_eq!(line_of_texts(&text("A[0] = A[0]"), &text("")), "equal 3");
     assert_eq!(line_of_texts(&text(""), &text("A[1] = A[1]")), "equal 3");
@@ -387,7 +387,7 @@ fn tables_before_terms() {
 /// The same arity is not enough: 23 compares the marks too.
 #[test]
 fn marks_on_one_side() {
-    let text = |f: &str, g: &str| format!("op f/{f} op g/{g} array A in [2] array B out [1]");
+    let text = |f: &str, g: &str| format!("op f/{f} op g/{g} array A in [2] array B inout [1]");
     let (none, first) = (text("2", "2"), text("2*", "2"));
     let (second, both) = (text("2", "2*"), text("2*", "2*"));
     for (left, right, operator) in
@@ -406,8 +406,8 @@ fn marks_on_one_side() {
 #[test]
 fn masks() {
     let head = "array A in [5] array B out [3] array C inout [4] array D local [2]";
-    let left = asm(&format!("{head} B[1] = 1 C[2] = 2 D[0] = 3"));
-    let right = asm(&format!("{head} B[1] = 7 C[2] = 8 D[0] = 9"));
+    let left = asm(&format!("{head} B[0] = 0 B[1] = 1 B[2] = 0 C[2] = 2 D[0] = 3"));
+    let right = asm(&format!("{head} B[0] = 0 B[1] = 7 B[2] = 0 C[2] = 8 D[0] = 9"));
     let line = |left: &[u8], right: &[u8], mask| {
         line_of(Work::default().programs_masked(left, right, mask)).to_string()
     };
@@ -430,7 +430,7 @@ fn masks() {
 
 #[test]
 fn the_first_difference_is_named() {
-    let head = "array A out [2, 3] array B in [4] array C inout [2, 2, 2]";
+    let head = "array A inout [2, 3] array B in [4] array C inout [2, 2, 2]";
     let text = |items: &str| format!("{head} {items}");
     let all = "C[1, 1, 1] = 1 C[0, 1, 0] = 1 A[1, 2] = 1 A[1, 0] = 1";
     assert_eq!(line_of_texts(&text(all), &text("")), "differs 0 3");

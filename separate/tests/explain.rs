@@ -65,12 +65,12 @@ fn refusals_of_the_pair_stay_as_they_are() {
 #[test]
 fn the_last_of_many_writes() {
     let left = asm(
-        "array A in [3] array B out [4]
+        "array A in [3] array B inout [4]
         B[2] = const 1
         for i = 5 to 3 step -1 { for j = 0 to i - 4 { if j - 1 >= 0 { B[2] = A[0] } } B[3] = A[i - 3] }
         B[2] = const 9",
     );
-    let right = asm("array A in [3] array B out [4] array T local [7]
+    let right = asm("array A in [3] array B inout [4] array T local [7]
         for i = 5 to 3 step -1 { B[3] = A[i - 3] }
         for i = -3 to -1 { for j = 9 to 7 step -2 { B[2] = A[2] } }");
     let last = place_of(&left, &[1, 1, 2, 0, 0x13, 9, 0, 0, 0]);

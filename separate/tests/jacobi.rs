@@ -13,7 +13,7 @@ const ORIGINAL: &str = "
 op add/2
 op mul/2
 array A inout [16]
-array B out [16]
+array B inout [16]
 for t = 0 to 1 {
   for i = 1 to 14 {
     B[i] = mul(const 33333, add(add(A[i - 1], A[i]), A[i + 1]))
@@ -31,7 +31,7 @@ const TILED: &str = "
 op add/2
 op mul/2
 array A inout [16]
-array B out [16]
+array B inout [16]
 for c0 = 1 to 17 {
   for odd = 15 to 17 step 2 {
     if c0 - odd >= 0 { if odd - c0 >= 0 {
@@ -90,6 +90,20 @@ fn the_updates_come_in_the_order_of_figure_3() {
     assert_eq!(tiled[48..], last.map(|(array, cell)| [1, array, cell]));
 }
 
+/// Nothing writes the border of B: of an out array that is a difference, and of
+/// a local one that is none.
+#[test]
+fn other_roles_of_the_second_array() {
+    let with = |role: &str| [ORIGINAL, TILED].map(|text| text.replace("B inout", role));
+    let [original, tiled] = with("B out");
+    assert_eq!(line_of_texts(&original, &tiled), "differs 1 0");
+    let [original, tiled] = with("B local");
+    assert_eq!(line_of_texts(&original, &tiled), "equal 16");
+    // One tile less: B[14] is read and not yet written.
+    let wrong = tiled.replace("- c0 + 14 >=", "- c0 + 13 >=");
+    assert_eq!(line_of_texts(&original, &wrong), "refused right 17 43");
+}
+
 #[test]
 fn small_mistakes_in_the_tiled_variant_are_found() {
     let mistake = |from: &str, to: &str| {
@@ -100,6 +114,6 @@ fn small_mistakes_in_the_tiled_variant_are_found() {
     assert_eq!(mistake("add(A[0], A[1])", "add(A[1], A[0])"), "differs 0 1");
     // The second time step overtakes the first.
     assert_eq!(mistake("for c2 = 0 to 1", "for c2 = 1 to 0 step -1"), "differs 0 2");
-    // One tile less: B[14] is read and not yet written.
-    assert_eq!(mistake("- c0 + 14 >=", "- c0 + 13 >="), "refused right 17 43");
+    // One tile less: A[13], which A[12] needs, is copied in no time step.
+    assert_eq!(mistake("- c0 + 14 >=", "- c0 + 13 >="), "differs 0 12");
 }

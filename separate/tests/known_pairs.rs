@@ -45,7 +45,7 @@ fn one_round_with_1() {
 
 #[test]
 fn no_round_on_both_sides() {
-    assert_eq!(line(&l_with(&[(16, 2)]), &l_with(&[(16, 2)])), "equal 2");
+    assert_eq!(line(&l_with(&[(16, 2)]), &l_with(&[(16, 2)])), "differs 1 0");
 }
 
 #[test]

@@ -13,10 +13,10 @@ fn counts(text: &str) -> Counts {
 
 #[test]
 fn cells() {
-    let two = "array A in [1024] array B out [1024]";
+    let two = "array A in [1024] array B inout [1024]";
     assert_eq!(refusal_of_text(two), None);
     assert_eq!(line_of_texts(two, two), "equal 1024");
-    let three = "array A in [1024] array B out [1024] array C local [1]";
+    let three = "array A in [1024] array B inout [1024] array C local [1]";
     // Mark, version, two counts, two arrays of four bytes.
     assert_eq!(refusal_of_text(three), Some((8, 15)));
     assert_eq!(refusal_of_text("array A out [2, 1024]"), None);
@@ -163,7 +163,7 @@ fn alike_terms_count_once() {
 fn program_bytes() {
     // Guards of four bytes each between the tables and the closing 00.
     let filled = |length: usize| {
-        let mut bytes = b"ALP\x01\x00\x00\x01\x01\x01\x01\x00".to_vec();
+        let mut bytes = b"ALP\x01\x00\x00\x01\x02\x01\x01\x00".to_vec();
         while bytes.len() + 4 < length {
             bytes.extend([3, 0, 0, 0]);
         }

@@ -29,12 +29,17 @@ fn accepted(words: &[u32]) -> bool {
     }
 }
 
-/// BASE's list with one word set.
-fn accepted_with(at: usize, word: u32) -> bool {
-    let mut words = list_of(BASE);
+/// The list with one word set to another.
+fn with_word(list: &[u32], at: usize, word: u32) -> Vec<u32> {
+    let mut words = list.to_vec();
     assert_ne!(words[at], word, "no change at {at}");
     words[at] = word;
-    accepted(&words)
+    words
+}
+
+/// BASE's list with one word set.
+fn accepted_with(at: usize, word: u32) -> bool {
+    accepted(&with_word(&list_of(BASE), at, word))
 }
 
 #[test]
@@ -348,17 +353,19 @@ fn line_of_lists(left: &[u32], right: &[u32], mask: u16) -> String {
 
 #[test]
 fn lists_are_compared_as_their_programs_are() {
-    let left = BASE.to_string();
+    // Inout, so that what B[1, 0] leaves unwritten is no difference.
+    let left = BASE.replace("B out", "B inout");
     let rights = [
+        left.clone(),
         BASE.to_string(),
-        BASE.replace("-1", "-2"),
-        BASE.replace("T[1] = f", "T[0] = g(1) T[1] = f"),
-        BASE.replace("g(f(", "f(g(")
+        left.replace("-1", "-2"),
+        left.replace("T[1] = f", "T[0] = g(1) T[1] = f"),
+        left.replace("g(f(", "f(g(")
             .replace("), const", ", const")
             .replace("C[0], const 7)", "C[0]), const 7"),
-        BASE.replace("C[0] = ", "C[1] = "),
-        BASE.replace("A in [3]", "A in [4]"),
-        BASE.replace("op g/1", "op g/1 op h/1"),
+        left.replace("C[0] = ", "C[1] = "),
+        left.replace("A in [3]", "A in [4]"),
+        left.replace("op g/1", "op g/1 op h/1"),
     ];
     for right in rights {
         let lists = line_of_lists(&list_of(&left), &list_of(&right), 0xFFFF);
@@ -388,7 +395,8 @@ fn refusals_of_lists() {
     let mut wrong = base.clone();
     wrong[98] = 9;
     let short = &base[..LIST_WORDS - 1];
-    assert_eq!(line_of_lists(&base, &base, 0xFFFF), "equal 6");
+    assert_eq!(line_of_lists(&base, &base, 0xFFFF), "differs 1 0");
+    assert_eq!(line_of_lists(&base, &base, 0xFFFD), "equal 2");
     assert_eq!(line_of_lists(&wrong, &base, 0), "refused left 26 0");
     assert_eq!(line_of_lists(&base, &wrong, 0), "refused right 26 0");
     assert_eq!(line_of_lists(&wrong, &wrong, 0), "refused left 26 0");
@@ -437,7 +445,7 @@ fn permutations(count: usize) -> Vec<Vec<usize>> {
 
 #[test]
 fn every_permitted_order_gives_the_same_reply() {
-    let text = "op f/2 array A in [2] array B out [2] array C inout [2] array T local [1]
+    let text = "op f/2 array A in [2] array B out [1] array C inout [2] array T local [1]
         T[0] = f(A[0], C[1])
         B[0] = T[0]
         C[1] = f(B[0], 3)
@@ -465,7 +473,11 @@ fn every_permitted_order_gives_the_same_reply() {
             let after = line_of_lists(&words, &other, 0xFFFF);
             if kept {
                 assert_eq!(before, after);
-                assert_eq!(line_of_lists(&words, &list, 0xFFFF), "equal 4");
+                assert_eq!(line_of_lists(&words, &list, 0xFFFF), "equal 3");
+                // One element more in B, which no update writes.
+                let [words, list] = [&words, &list].map(|list| with_word(list, 25, 2));
+                assert_eq!(line_of_lists(&words, &list, 0xFFFF), "differs 1 1");
+                assert_eq!(line_of_lists(&words, &list, 0xFFFD), "equal 2");
             } else if before != after {
                 changed += 1;
             }

@@ -7,13 +7,13 @@ use std::collections::{HashMap, HashSet};
 
 use separate::limits::LIST_WORDS;
 use separate::list::{code, decode, List, Record};
-use separate::random::{ListPairs, Pairs};
+use separate::random::{ListPairs, Pairs, Parts, Random};
 use separate::tables::{arity, Role, MARKED};
 use separate::{unroll, Reply, Side, Work};
 
 type Value = u128;
 
-/// A content and a meaning, random ones for another seed, over so many values.
+/// Contents and a meaning, random ones for another seed, over so many values.
 struct Meaning {
     seed: Value,
     values: Value,
@@ -33,10 +33,6 @@ impl Meaning {
         value % self.values
     }
 
-    fn start(&self, array: u32, cell: u32) -> Value {
-        self.scramble(&[1, array.into(), cell.into()])
-    }
-
     /// The same for both orders where the operator is marked.
     fn operator(&self, number: u32, operator: u8, mut arguments: Vec<Value>) -> Value {
         if operator == MARKED {
@@ -45,57 +41,66 @@ impl Meaning {
         self.scramble(&[vec![2, number.into()], arguments].concat())
     }
 
-    fn outcome(&self, list: &List) -> Outcome {
-        let mut outcome = Outcome { cells: HashMap::new(), met: HashSet::new() };
-        for (&[_, array, cell], expression) in list.updates() {
-            let mut records = expression.iter();
-            let value = self.value(&mut records, list, &mut outcome);
-            assert!(records.next().is_none());
-            outcome.cells.insert((array, cell), value);
-        }
-        outcome
-    }
-
-    fn value(
-        &self,
-        records: &mut std::slice::Iter<Record>,
-        list: &List,
-        outcome: &mut Outcome,
-    ) -> Value {
-        let &[kind, first, second] = records.next().unwrap();
-        let value = match kind {
-            code::READ => match outcome.cells.get(&(first, second)) {
-                Some(&value) => value,
-                None => self.start(first, second),
-            },
-            code::OPERATOR => {
-                let operator = list.tables.operators()[first as usize];
-                let argument = |_| self.value(records, list, outcome);
-                let arguments = (0..arity(operator)).map(argument).collect();
-                self.operator(first, operator, arguments)
-            }
-            _ => self.scramble(&[kind.into(), first.into()]),
-        };
-        outcome.met.insert(value);
-        value
-    }
-
     /// The first element in which the lists leave different values.
     fn difference(&self, left: &List, right: &List, mask: u16) -> Option<(usize, usize)> {
-        let (one, other) = (self.outcome(left), self.outcome(right));
+        let one = Outcome::of(self, left, Side::Left);
+        let other = Outcome::of(self, right, Side::Right);
         elements(left, mask).find(|&(array, cell)| {
             let element = (array as u32, cell as u32);
-            let start = self.start(element.0, element.1);
-            let held = |side: &Outcome| side.cells.get(&element).copied().unwrap_or(start);
-            held(&one) != held(&other)
+            one.held(element) != other.held(element)
         })
     }
 }
 
-/// The contents of written cells after all updates, and every value met.
-struct Outcome {
-    cells: HashMap<(u32, u32), Value>,
+/// What a list leaves on its side, and every value met.
+struct Outcome<'a> {
+    meaning: &'a Meaning,
+    list: &'a List<'a>,
+    side: Side,
+    written: HashMap<(u32, u32), Value>,
     met: HashSet<Value>,
+}
+
+impl<'a> Outcome<'a> {
+    fn of(meaning: &'a Meaning, list: &'a List<'a>, side: Side) -> Outcome<'a> {
+        let (written, met) = (HashMap::new(), HashSet::new());
+        let mut outcome = Outcome { meaning, list, side, written, met };
+        for (&[_, array, cell], expression) in list.updates() {
+            let mut records = expression.iter();
+            let value = outcome.value(&mut records);
+            assert!(records.next().is_none());
+            outcome.written.insert((array, cell), value);
+        }
+        outcome
+    }
+
+    /// In and inout arrays start alike on both sides, all others do not.
+    fn start(&self, (array, cell): (u32, u32)) -> Value {
+        let own = match self.list.tables.arrays()[array as usize].role {
+            Role::In | Role::Inout => 0,
+            Role::Out | Role::Local => 1 + self.side as Value,
+        };
+        self.meaning.scramble(&[1, own, array.into(), cell.into()])
+    }
+
+    fn held(&self, element: (u32, u32)) -> Value {
+        self.written.get(&element).copied().unwrap_or_else(|| self.start(element))
+    }
+
+    fn value(&mut self, records: &mut std::slice::Iter<Record>) -> Value {
+        let &[kind, first, second] = records.next().unwrap();
+        let value = match kind {
+            code::READ => self.held((first, second)),
+            code::OPERATOR => {
+                let operator = self.list.tables.operators()[first as usize];
+                let arguments = (0..arity(operator)).map(|_| self.value(records)).collect();
+                self.meaning.operator(first, operator, arguments)
+            }
+            _ => self.meaning.scramble(&[kind.into(), first.into()]),
+        };
+        self.met.insert(value);
+        value
+    }
 }
 
 /// Those that are compared, in their order.
@@ -109,7 +114,8 @@ fn elements<'a>(list: &'a List, mask: u16) -> impl Iterator<Item = (usize, usize
 
 /// What two lists with the same tables should be answered.
 fn expected(left: &List, right: &List, mask: u16) -> Reply {
-    let (one, other) = (APART.outcome(left), APART.outcome(right));
+    let one = Outcome::of(&APART, left, Side::Left);
+    let other = Outcome::of(&APART, right, Side::Right);
     if one.met.union(&other.met).count() > 4_096 {
         return Reply::Refused { side: Side::Both, number: 24, place: 0 };
     }
@@ -172,4 +178,37 @@ fn random_lists_are_answered_as_values_say() {
         counts[kind] += 1;
     }
     assert!(counts[0] > 300 && counts[1] > 150 && counts[2] > 5, "{counts:?}");
+}
+
+/// What a list should be answered beside a new order of itself: no value
+/// differs, so an out element that is never written does or none.
+fn expected_of_itself(list: &List, mask: u16) -> Reply {
+    let written: HashSet<_> = list.updates().map(|(update, _)| (update[1], update[2])).collect();
+    let unwritten = |&(array, cell): &(usize, usize)| {
+        list.tables.arrays()[array].role == Role::Out
+            && !written.contains(&(array as u32, cell as u32))
+    };
+    match elements(list, mask).find(unwritten) {
+        Some((array, cell)) => Reply::Differs { array, cell },
+        None => Reply::Equal { count: elements(list, mask).count() },
+    }
+}
+
+#[test]
+fn a_list_beside_its_new_order() {
+    let (mut work, mut random) = (Work::default(), Random::new(6));
+    let mut counts = [0; 2];
+    for pair in ListPairs::new(99).take(1_500) {
+        let words = pair.left.slice();
+        let Some(list) = decode(&words).filter(|_| words.len() >= LIST_WORDS) else { continue };
+        let mut other = Parts::of(&list).reordered(&mut random).swapped(&mut random).words();
+        other.resize(LIST_WORDS, 0);
+        let reply = work.lists(&words, &other, pair.mask);
+        if matches!(reply, Reply::Refused { number: 24, .. }) {
+            continue;
+        }
+        assert_eq!(reply, expected_of_itself(&list, pair.mask));
+        counts[usize::from(matches!(reply, Reply::Equal { .. }))] += 1;
+    }
+    assert!(counts[0] > 200 && counts[1] > 400, "{counts:?}");
 }

@@ -237,15 +237,18 @@ fn number_20() {
 #[test]
 fn number_22() {
     let unlike = |left: &str, right: &str| line_of_texts(left, right);
-    let base = "array A in [2] array B out [3]";
-    assert_eq!(unlike(base, "array A in [2] array B out [4]"), "refused both 22 1");
-    assert_eq!(unlike(base, "array A inout [2] array B out [3]"), "refused both 22 0");
-    assert_eq!(unlike(base, "array A in [2] array B out [3, 1]"), "refused both 22 1");
+    let base = "array A in [2] array B inout [3]";
+    assert_eq!(unlike(base, "array A in [2] array B inout [4]"), "refused both 22 1");
+    assert_eq!(unlike(base, "array A inout [2] array B inout [3]"), "refused both 22 0");
+    assert_eq!(unlike(base, "array A in [2] array B inout [3, 1]"), "refused both 22 1");
     assert_eq!(unlike(base, "array A in [2]"), "refused both 22 1");
     assert_eq!(unlike("array A in [2]", base), "refused both 22 1");
-    assert_eq!(unlike(base, "array A in [2] array B out [3] array C in [1]"), "refused both 22 2");
+    assert_eq!(
+        unlike(base, "array A in [2] array B inout [3] array C in [1]"),
+        "refused both 22 2"
+    );
     // Locals are private.
-    assert_eq!(unlike(base, "array A in [2] array B out [3] array T local [5]"), "equal 3");
+    assert_eq!(unlike(base, "array A in [2] array B inout [3] array T local [5]"), "equal 3");
     assert_eq!(unlike("array T local [5]", "array T local [6] array U local [2]"), "equal 0");
     assert_eq!(unlike("array T local [5]", "array A in [1]"), "refused both 22 0");
     // The same number of cells is not the same extents.
@@ -254,7 +257,7 @@ fn number_22() {
 
 #[test]
 fn number_23() {
-    let with = |operators: &str| format!("{operators} array A out [1]");
+    let with = |operators: &str| format!("{operators} array A inout [1]");
     let unlike = |left, right| line_of_texts(&with(left), &with(right));
     assert_eq!(unlike("op f/1 op g/2", "op f/1 op g/3"), "refused both 23 1");
     assert_eq!(unlike("op f/1 op g/2", "op f/2 op g/2"), "refused both 23 0");

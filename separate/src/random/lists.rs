@@ -546,7 +546,7 @@ impl<'a> ListMaker<'a> {
         let declared = self.tables.arrays()[array];
         let cell = self.random.below(declared.cells());
         let written = self.written[self.tables.first_cell(array) + cell];
-        if self.random.chance(70) && (declared.role.readable_at_start() || written) {
+        if self.random.chance(70) && (declared.role.starts_alike() || written) {
             return [code::READ, array as u32, cell as u32];
         }
         let wide = if self.random.chance(20) { usize::MAX } else { 6 };

@@ -113,7 +113,7 @@ impl Maker<'_> {
         let mut items = Vec::new();
         for array in 0..self.arrays.len() {
             let role = self.arrays[array].role;
-            if !role.readable_at_start() && self.random.chance(50) {
+            if !role.starts_alike() && self.random.chance(50) {
                 items.push(self.fill(array));
             }
         }
@@ -288,9 +288,8 @@ impl Maker<'_> {
             return Some(Expression::Read { array, subscripts });
         }
         let daring = self.random.chance(4);
-        let readable = |&array: &usize| {
-            daring || self.filled[array] || self.arrays[array].role.readable_at_start()
-        };
+        let readable =
+            |&array: &usize| daring || self.filled[array] || self.arrays[array].role.starts_alike();
         let readable: Vec<_> = (0..self.arrays.len()).filter(readable).collect();
         if readable.is_empty() {
             return None;
