@@ -203,12 +203,13 @@ fn a_list_beside_its_new_order() {
         let Some(list) = decode(&words).filter(|_| words.len() >= LIST_WORDS) else { continue };
         let mut other = Parts::of(&list).reordered(&mut random).swapped(&mut random).words();
         other.resize(LIST_WORDS, 0);
-        let reply = work.lists(&words, &other, pair.mask);
+        let mask = if random.chance(50) { 0xFFFF } else { pair.mask };
+        let reply = work.lists(&words, &other, mask);
         if matches!(reply, Reply::Refused { number: 24, .. }) {
             continue;
         }
-        assert_eq!(reply, expected_of_itself(&list, pair.mask));
+        assert_eq!(reply, expected_of_itself(&list, mask));
         counts[usize::from(matches!(reply, Reply::Equal { .. }))] += 1;
     }
-    assert!(counts[0] > 200 && counts[1] > 400, "{counts:?}");
+    assert!(counts[0] > 80 && counts[1] > 800, "{counts:?}");
 }

@@ -4,10 +4,10 @@ use std::collections::BTreeMap;
 
 use separate::compare::ALL;
 use separate::entries;
-use separate::list::{decode, Record};
-use separate::random::{Explanations, ListPairs, Pairs};
+use separate::list::{decode, List, Record};
+use separate::random::{unwritten, Explanations, ListPairs, Masked, Pairs};
 use separate::stream::{inputs, lists, write_input, write_lists, Cut};
-use separate::tables::MARKED;
+use separate::tables::{Role, MARKED};
 use separate::{line_of, Reply, Side, Work};
 
 /// A reply without its numbers, but with side and question of a refusal.
@@ -130,7 +130,7 @@ fn some_pairs_are_large() {
     let mut work = Work::default();
     let (mut rounds, mut updates, mut nodes, mut bytes) = (0, 0, 0, 0);
     let mut list = vec![0; separate::limits::LIST_WORDS];
-    for input in Pairs::new(1).take(2_000) {
+    for input in Pairs::new(1).take(4_000) {
         if !matches!(work.input(&input), Reply::Equal { .. } | Reply::Differs { .. }) {
             continue;
         }
@@ -270,6 +270,124 @@ fn a_cut_stream_is_seen() {
     assert_eq!(lists(&stream).collect::<Vec<_>>(), [Err(Cut)]);
 }
 
+/// Which sides leave the element unwritten, and the role of its array.
+fn unwritten_on([left, right]: [&List; 2], array: usize, cell: usize) -> String {
+    let element = [array as u32, cell as u32];
+    let writes = |list: &List| list.updates().any(|(update, _)| update[1..] == element);
+    let sides = match [writes(left), writes(right)] {
+        [true, true] => "neither",
+        [true, false] => "the right",
+        [false, true] => "the left",
+        [false, false] => "both",
+    };
+    format!("{:?}, unwritten on {sides}", left.tables.arrays()[array].role)
+}
+
+/// Is there an array of the role that no update of either side writes?
+fn is_untouched(lists: [&List; 2], wanted: Role) -> bool {
+    let written = |array| {
+        lists.iter().any(|list| list.updates().any(|(update, _)| update[1] as usize == array))
+    };
+    let arrays = lists[0].tables.shared().iter().enumerate();
+    arrays.filter(|(_, declared)| declared.role == wanted).any(|(array, _)| !written(array))
+}
+
+fn has_out(list: &List) -> bool {
+    list.tables.arrays().iter().any(|array| array.role == Role::Out)
+}
+
+#[test]
+fn unwritten_elements_in_four_thousand_pairs() {
+    let mut work = Work::default();
+    let mut counts = BTreeMap::new();
+    let mut count = |kind: &str| *counts.entry(kind.to_string()).or_insert(0usize) += 1;
+    for input in Pairs::new(1).take(4_000) {
+        let reply = work.input(&input);
+        if matches!(reply, Reply::Refused { .. }) {
+            continue;
+        }
+        let (left, right) = separate::input::split(&input).unwrap();
+        let words = [left, right].map(|program| work.unroll(program).unwrap().to_vec());
+        let [one, other] = [decode(&words[0]).unwrap(), decode(&words[1]).unwrap()];
+        if let Reply::Differs { array, cell } = reply {
+            count(&unwritten_on([&one, &other], array, cell));
+            count(if left == right { "differs, itself" } else { "differs, another" });
+            continue;
+        }
+        count(if has_out(&one) { "equal, out arrays" } else { "equal, no out array" });
+        if is_untouched([&one, &other], Role::Inout) {
+            count("equal, an inout array that neither writes");
+        }
+    }
+    assert_counts(
+        &counts,
+        &[
+            ("Out, unwritten on neither", 180),
+            ("Out, unwritten on the left", 90),
+            ("Out, unwritten on the right", 120),
+            ("Out, unwritten on both", 140),
+            ("differs, itself", 40),
+            ("Inout, unwritten on neither", 180),
+            ("Inout, unwritten on the left", 10),
+            ("Inout, unwritten on the right", 30),
+            ("equal, out arrays", 450),
+            ("equal, an inout array that neither writes", 250),
+        ],
+    );
+}
+
+/// Are all out elements written, or are those that are not left out?
+fn state(list: &List, mask: u16) -> &'static str {
+    let missing = unwritten(list);
+    let left_out = missing.iter().all(|(array, _)| mask >> array & 1 == 0);
+    match (missing.is_empty(), left_out) {
+        (true, _) if has_out(list) => "all written",
+        (true, _) => "no out array",
+        (false, true) => "what is unwritten left out",
+        (false, false) => "something unwritten",
+    }
+}
+
+/// A list beside itself or a new order of itself, and any two that differ.
+#[test]
+fn unwritten_elements_in_four_thousand_list_pairs() {
+    let mut work = Work::default();
+    let mut counts = BTreeMap::new();
+    let mut count = |kind: String| *counts.entry(kind).or_insert(0usize) += 1;
+    for pair in ListPairs::new(1).take(4_000) {
+        let (left, right) = (pair.left.slice(), pair.right.slice());
+        let reply = work.lists(&left, &right, pair.mask);
+        if matches!(reply, Reply::Refused { .. }) {
+            continue;
+        }
+        let [one, other] = [decode(&left).unwrap(), decode(&right).unwrap()];
+        if let Reply::Differs { array, cell } = reply {
+            count(unwritten_on([&one, &other], array, cell));
+        }
+        let beside = match [left == right, all_scattered(&left) == all_scattered(&right)] {
+            [true, _] => "itself",
+            [false, true] => "a new order",
+            _ => continue,
+        };
+        count(format!("{}, {beside}, {}", kind(reply), state(&one, pair.mask)));
+    }
+    assert_counts(
+        &counts,
+        &[
+            ("Out, unwritten on neither", 180),
+            ("Out, unwritten on the left", 30),
+            ("Out, unwritten on the right", 30),
+            ("Out, unwritten on both", 90),
+            ("differs, itself, something unwritten", 10),
+            ("differs, a new order, something unwritten", 45),
+            ("equal, itself, what is unwritten left out", 20),
+            ("equal, a new order, what is unwritten left out", 75),
+            ("equal, itself, all written", 70),
+            ("equal, a new order, all written", 400),
+        ],
+    );
+}
+
 /// The right side is looked at only when the left has no refusal.
 #[test]
 fn right_refusals_have_an_accepted_left() {
@@ -331,7 +449,7 @@ fn refused_versions_and_marks_in_four_thousand_pairs() {
             ("no version but for the second byte", 10),
             ("a mark in version 1", 3),
             ("a mark for another arity", 3),
-            ("a mark's byte elsewhere", 10),
+            ("a mark's byte elsewhere", 6),
             ("refused in version 2 without marks", 40),
         ],
     );
@@ -395,6 +513,43 @@ fn marks_in_a_thousand_explanations() {
     assert_counts(&counts, &[("02 in version 1", 300), ("82 in version 2", 300)]);
 }
 
+/// Which sides leave the element unwritten that differs; or, where nothing
+/// does, that a mask leaves out what both leave unwritten.
+#[test]
+fn unwritten_elements_in_three_thousand_explanations() {
+    let mut work = Work::default();
+    let mut counts = BTreeMap::new();
+    let mut explanations = Explanations::new(1);
+    for _ in 0..3_000 {
+        let Masked { left, right, mask } = explanations.pair();
+        let reply = work.programs_masked(&left, &right, mask);
+        if matches!(reply, Reply::Refused { .. }) {
+            continue;
+        }
+        let words = [left, right].map(|program| work.unroll(&program).unwrap().to_vec());
+        let [left, right] = [decode(&words[0]).unwrap(), decode(&words[1]).unwrap()];
+        let kind = match reply {
+            Reply::Differs { array, cell } => unwritten_on([&left, &right], array, cell),
+            _ if unwritten(&left).is_empty() => continue,
+            _ => "equal, what is unwritten left out".to_string(),
+        };
+        *counts.entry(kind).or_insert(0) += 1;
+    }
+    assert_counts(
+        &counts,
+        &[
+            ("Out, unwritten on neither", 350),
+            ("Out, unwritten on the left", 180),
+            ("Out, unwritten on the right", 180),
+            ("Out, unwritten on both", 270),
+            ("Inout, unwritten on neither", 300),
+            ("Inout, unwritten on the left", 170),
+            ("Inout, unwritten on the right", 170),
+            ("equal, what is unwritten left out", 40),
+        ],
+    );
+}
+
 /// The list with a mark on each operator of two arguments.
 fn all_marked(list: &[u32]) -> Vec<u32> {
     let mut list = list.to_vec();
@@ -420,14 +575,25 @@ fn all_scattered(list: &[u32]) -> Vec<Vec<Record>> {
     updates
 }
 
+/// The list with inout for out, so that what both sides leave unwritten is no difference.
+fn all_inout(list: &[u32]) -> Vec<u32> {
+    let mut list = list.to_vec();
+    list[18..98].iter_mut().step_by(5).filter(|role| **role == 1).for_each(|role| *role = 2);
+    list
+}
+
 /// What two lists that differ differ in, if it is the order of two arguments, or the grouping alone:
-/// with operators of at most two arguments, nothing else that differs keeps all nodes.
+/// with operators of at most two arguments, nothing else that differs in a value keeps all nodes.
 fn difference(
     work: &mut Work,
-    [left, right]: [&[u32]; 2],
+    lists: [&[u32]; 2],
     mask: u16,
     nodes: fn(&[u32]) -> Vec<Vec<Record>>,
 ) -> Option<String> {
+    let [left, right] = &lists.map(all_inout);
+    if matches!(work.lists(left, right, mask), Reply::Equal { .. }) {
+        return None;
+    }
     let marks = match [2, u32::from(MARKED)].map(|word| left[1..17].contains(&word)) {
         [_, false] => "none marked",
         [true, true] => "some marked",
@@ -442,10 +608,10 @@ fn difference(
 }
 
 #[test]
-fn orders_and_groupings_in_four_thousand_pairs() {
+fn orders_and_groupings_in_six_thousand_pairs() {
     let mut work = Work::default();
     let mut counts = BTreeMap::new();
-    for input in Pairs::new(1).take(4_000) {
+    for input in Pairs::new(1).take(6_000) {
         if !matches!(work.input(&input), Reply::Differs { .. }) {
             continue;
         }

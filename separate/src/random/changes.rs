@@ -1,5 +1,6 @@
 //! Single changes, most of which change what a program computes.
 
+use super::rewrites::at_item;
 use super::Random;
 use crate::tables::{arity, MARKED};
 use crate::tree::{
@@ -9,7 +10,7 @@ use crate::tree::{
 /// One change of a random kind, if the program has a place for it.
 pub fn change(source: &Source, random: &mut Random) -> Option<Source> {
     let mut source = source.clone();
-    let changed = match random.below(14) {
+    let changed = match random.below(15) {
         0 | 1 => change_operator(&mut source, random),
         2 | 3 => change_arguments(&mut source, random),
         4 | 5 => change_form(&mut source, random, &[Use::Subscript]),
@@ -18,9 +19,20 @@ pub fn change(source: &Source, random: &mut Random) -> Option<Source> {
         8 => change_form(&mut source, random, &[Use::Literal]),
         9 => change_form(&mut source, random, &[Use::Guard]),
         10 => change_name(&mut source, random),
-        11 | 12 => regroup(&mut source, random),
+        11..=13 => regroup(&mut source, random),
         _ => change_target(&mut source, random),
     };
+    (changed && source.fits()).then_some(source)
+}
+
+/// One change that may leave elements unwritten: an item is missing, or a bound
+/// or guard is another.
+pub fn leave_out(source: &Source, random: &mut Random) -> Option<Source> {
+    if random.chance(60) {
+        return at_item(source, random, &|_| true, |_, _, _| Some(Vec::new()));
+    }
+    let mut source = source.clone();
+    let changed = change_form(&mut source, random, &[Use::Start, Use::Stop, Use::Guard]);
     (changed && source.fits()).then_some(source)
 }
 

@@ -79,11 +79,17 @@ impl Explanations {
     fn nests(&mut self) -> (Vec<u8>, Vec<u8>) {
         let mut pair = (Vec::new(), Vec::new());
         for _ in 0..ATTEMPTS {
-            let role = *self.random.pick(&["out", "inout"]);
             let star = *self.random.pick(&["", "*"]);
+            // Out elements that both sides leave unwritten come before most others.
+            let (role, filling) = *self.random.pick(&[
+                ("inout", ""),
+                ("inout", ""),
+                ("out", "for i = 39 to 0 step -1 { B[i] = const 4 }"),
+                ("out", ""),
+            ]);
             let head = format!("op f/2{star} array A in [8] array B {role} [40]");
-            let left = nest(&mut self.random, &head);
-            let Some(right) = self.other(&left, &head) else { continue };
+            let left = nest(&mut self.random, &head, filling);
+            let Some(right) = self.other(&left, &head, filling) else { continue };
             pair = (bytes_of(&left), bytes_of(&right));
             if matches!(self.work.programs(&pair.0, &pair.1), Reply::Differs { .. }) {
                 break;
@@ -97,7 +103,7 @@ impl Explanations {
     }
 
     /// The same with a change, or without its last items, or another nest.
-    fn other(&mut self, source: &Source, head: &str) -> Option<Source> {
+    fn other(&mut self, source: &Source, head: &str, filling: &str) -> Option<Source> {
         match self.random.below(10) {
             0..=4 => change(source, &mut self.random),
             5..=7 => {
@@ -105,18 +111,19 @@ impl Explanations {
                 shorter.items.truncate(self.random.below(source.items.len()));
                 Some(shorter)
             }
-            _ => Some(nest(&mut self.random, head)),
+            _ => Some(nest(&mut self.random, head, filling)),
         }
     }
 }
 
-/// Some statements and loops behind declarations that both sides share, and
-/// locals, which nothing writes.
-fn nest(random: &mut Random, head: &str) -> Source {
+/// Some statements and loops behind declarations and a first item that both
+/// sides share, and locals, which nothing writes.
+fn nest(random: &mut Random, head: &str, filling: &str) -> Source {
     let mut text = format!("{head} array C inout [2, 3]\n");
     if random.chance(30) {
         text += &format!("array T local [{}]\n", random.between(1, 5));
     }
+    text += filling;
     if random.chance(35) {
         text += &before(random);
     }

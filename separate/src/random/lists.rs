@@ -3,6 +3,7 @@
 use std::ops::Range;
 
 use super::programs::{program, tables};
+use super::unwritten::unwritten;
 use super::{templates, Random};
 use crate::compare::ALL;
 use crate::limits::{CELLS, LIST_WORDS, NODES, OPERATOR_NESTING, UPDATES};
@@ -23,8 +24,9 @@ impl Iterator for ListPairs {
     type Item = ListPair;
 
     fn next(&mut self) -> Option<ListPair> {
-        let (left, right) = self.pair();
-        let mask = self.mask();
+        let base = self.list();
+        let mask = self.mask(&base);
+        let (left, right) = self.pair(base);
         // The longer slices change nothing; both sides come in either order.
         let (left, right) = (self.stored(left), self.stored(right));
         let swapped = self.random.chance(50);
@@ -93,6 +95,13 @@ impl Parts {
             }
         }
         parts
+    }
+
+    /// The out elements that no update writes, by array and cell.
+    fn unwritten(&self) -> Vec<(usize, usize)> {
+        let words = self.words();
+        let list = List { tables: self.tables.clone(), records: words[HEADER..].as_chunks().0 };
+        unwritten(&list)
     }
 
     /// How many updates each one has to wait for, and which wait for it. Going
@@ -164,8 +173,7 @@ impl ListPairs {
         ListPairs { random: Random::new(seed), work: Work::default() }
     }
 
-    fn pair(&mut self) -> (Vec<u32>, Vec<u32>) {
-        let base = self.list();
+    fn pair(&mut self, base: Parts) -> (Vec<u32>, Vec<u32>) {
         let words = base.words();
         match self.random.below(100) {
             0..5 => (words.clone(), words),
@@ -206,13 +214,19 @@ impl ListPairs {
         }
     }
 
-    fn mask(&mut self) -> u16 {
-        match self.random.below(8) {
+    /// Any; often without the out arrays that have unwritten elements, which
+    /// would be a difference whatever the pair is.
+    fn mask(&mut self, base: &Parts) -> u16 {
+        let mask = match self.random.below(8) {
             0..4 => u16::MAX,
             4 => 1 << self.random.below(6),
             5 => *self.random.pick(&[0, 0x8000, 0x7FFF, 1]),
             _ => self.random.draw() as u16,
+        };
+        if self.random.chance(50) {
+            return mask;
         }
+        base.unwritten().iter().fold(mask, |mask, (array, _)| mask & !(1 << array))
     }
 
     /// Mostly the shortest slice that is long enough.
@@ -228,8 +242,33 @@ impl ListPairs {
         side.words.truncate(side.length);
     }
 
-    /// An accepted list, from a program or made up.
+    /// An accepted list, mostly one that leaves no out element unwritten.
     fn list(&mut self) -> Parts {
+        let mut parts = self.any_list();
+        if self.random.chance(70) {
+            self.complete(&mut parts);
+        }
+        parts
+    }
+
+    /// Writes each out element that is missing, before all other updates or
+    /// behind them; where these would be too many, out arrays become inout.
+    fn complete(&mut self, parts: &mut Parts) {
+        let missing = parts.unwritten();
+        let nodes: usize = parts.updates.iter().map(|records| records.len() - 1).sum();
+        if parts.updates.len() + missing.len() > UPDATES || nodes + missing.len() > NODES {
+            parts.tables = with_inout(&parts.tables);
+            return;
+        }
+        let at = *self.random.pick(&[0, parts.updates.len()]);
+        let value = constant(self.random.below(9));
+        let update =
+            |(array, cell): (usize, usize)| vec![[code::UPDATE, array as u32, cell as u32], value];
+        parts.updates.splice(at..at, missing.into_iter().map(update));
+    }
+
+    /// From a program or made up.
+    fn any_list(&mut self) -> Parts {
         if self.random.chance(40) {
             return self.made_up();
         }
@@ -274,9 +313,10 @@ impl ListPairs {
         if parts.updates.is_empty() {
             return;
         }
-        match self.random.below(10) {
-            0 => self.change_arguments(parts),
-            1 => self.regroup(parts),
+        match self.random.below(20) {
+            0 | 1 => self.change_arguments(parts),
+            2 | 3 => self.regroup(parts),
+            4..7 => drop(parts.updates.remove(self.random.below(parts.updates.len()))),
             _ => self.change_record(parts),
         }
     }
@@ -429,11 +469,12 @@ impl ListPairs {
 
     /// 4,096 terms, a few more or a few less, about half of them on each side.
     fn many_terms(&mut self) -> (Vec<u32>, Vec<u32>) {
+        let role = *self.random.pick(&[Role::Out, Role::Inout]);
         let side = |first: usize, names: Range<usize>| {
             let literals =
                 (first..first + 1_024).map(|value| vec![[code::OPERATOR, 0, 0], literal(value)]);
             let constants = names.map(|name| vec![constant(name)]);
-            in_a_row(1, literals.chain(constants).collect()).words()
+            in_a_row(role, 1, literals.chain(constants).collect()).words()
         };
         let overlap = self.random.below(3);
         let (left, right) = (self.random.below(4), self.random.below(4));
@@ -442,13 +483,14 @@ impl ListPairs {
 
     /// 4,096 terms up to swaps, or one more, all but that one on both sides.
     fn many_sums(&mut self) -> (Vec<u32>, Vec<u32>) {
+        let role = *self.random.pick(&[Role::Out, Role::Inout]);
         let side = |random: &mut Random, more: bool| {
             let both = (0..1_023).flat_map(|first| [[first, first + 1_024], [first, first + 1]]);
             let of_literals = both.map(|both| both.map(literal));
             let sums = of_literals.chain([[0, 1].map(constant)]);
             let sums = sums.map(|[one, other]| vec![[code::OPERATOR, 0, 0], one, other]);
             let more = more.then(|| vec![constant(2)]);
-            in_a_row(MARKED, sums.chain(more).collect()).swapped(random).words()
+            in_a_row(role, MARKED, sums.chain(more).collect()).swapped(random).words()
         };
         let (left, right) = (self.random.chance(25), self.random.chance(25));
         (side(&mut self.random, left), side(&mut self.random, right))
@@ -463,9 +505,10 @@ fn constant(name: usize) -> Record {
     [code::CONSTANT, name as u32, 0]
 }
 
-/// One operator, and a cell of one array for each expression.
-fn in_a_row(operator: u8, expressions: Vec<Vec<Record>>) -> Parts {
-    let array = Declaration { role: Role::Out, extents: vec![1_024, 2] };
+/// One operator, and a cell of one array for each expression; the array has
+/// more cells.
+fn in_a_row(role: Role, operator: u8, expressions: Vec<Vec<Record>>) -> Parts {
+    let array = Declaration { role, extents: vec![1_024, 2] };
     let tables = tables_of(&[operator], &[array]);
     let update = |(cell, mut expression): (usize, Vec<Record>)| {
         expression.insert(0, [code::UPDATE, 0, cell as u32]);
@@ -482,16 +525,30 @@ fn deep(arity: u8, levels: usize, records: &mut Vec<Record>) {
 }
 
 fn tables_of(operators: &[u8], arrays: &[Declaration]) -> Tables {
-    let mut tables = Tables::default();
-    for &operator in operators {
-        tables.add_operator(operator);
-    }
-    for array in arrays {
+    let array = |array: &Declaration| {
         let mut extents = [0; 3];
         extents[..array.extents.len()].copy_from_slice(&array.extents);
-        tables.add_array(Array { role: array.role, dimensions: array.extents.len(), extents });
+        Array { role: array.role, dimensions: array.extents.len(), extents }
+    };
+    tables_with(operators, arrays.iter().map(array))
+}
+
+fn tables_with(operators: &[u8], arrays: impl Iterator<Item = Array>) -> Tables {
+    let mut tables = Tables::default();
+    operators.iter().for_each(|&operator| tables.add_operator(operator));
+    for array in arrays {
+        tables.add_array(array);
     }
     tables
+}
+
+/// The tables with inout for out.
+fn with_inout(tables: &Tables) -> Tables {
+    let array = |&array: &Array| match array.role {
+        Role::Out => Array { role: Role::Inout, ..array },
+        _ => array,
+    };
+    tables_with(tables.operators(), tables.arrays().iter().map(array))
 }
 
 /// Makes accepted lists that no loop program need have.

@@ -9,11 +9,13 @@ mod programs;
 mod refusals;
 mod rewrites;
 mod templates;
+mod unwritten;
 
 pub use entries::Records;
 pub use explanations::{Explanations, Masked};
 pub use lists::{ListPairs, Parts};
 pub use pairs::Pairs;
+pub use unwritten::unwritten;
 
 /// How often something is tried until it turns out as wanted. A few times are
 /// enough; the bound is for a checker that is wrong, so that its tests end.

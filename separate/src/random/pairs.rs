@@ -1,9 +1,10 @@
 //! Random pairs of programs, framed as standard input holds them.
 
-use super::changes::change;
+use super::changes::{change, leave_out};
 use super::programs::program;
 use super::refusals::refused;
 use super::rewrites::{renumber_arrays, swap_arguments, IF_INDEPENDENT, SAFE};
+use super::unwritten::{complete, unwritten_by, with_inout};
 use super::{templates, Random, ATTEMPTS};
 use crate::limits::PROGRAM_BYTES;
 use crate::reply::Reply;
@@ -87,7 +88,8 @@ impl Pairs {
         }
     }
 
-    /// Mostly small programs, so that thousands run in a second.
+    /// Mostly small programs, so that thousands run in a second. Out elements
+    /// may be left unwritten.
     fn base(&mut self) -> Source {
         match self.random.below(1_000) {
             0..14 => templates::large(&mut self.random),
@@ -100,12 +102,27 @@ impl Pairs {
         }
     }
 
+    /// One that leaves no out element unwritten.
+    fn whole_base(&mut self) -> Source {
+        let base = self.base();
+        complete(&base, &mut self.random, &mut self.work)
+    }
+
     fn reply(&mut self, left: &Source, right: &Source) -> Reply {
         self.work.programs(&bytes_of(left), &bytes_of(right))
     }
 
     fn are_equal(&mut self, left: &Source, right: &Source) -> bool {
         matches!(self.reply(left, right), Reply::Equal { .. })
+    }
+
+    /// Does the rewrite change no value, and write no other elements?
+    fn keeps(&mut self, base: &Source, rewrite: &Source) -> bool {
+        match self.reply(base, rewrite) {
+            Reply::Equal { .. } => true,
+            Reply::Differs { .. } => self.are_equal(&with_inout(base), &with_inout(rewrite)),
+            Reply::Refused { .. } => false,
+        }
     }
 
     /// One to four rewrites that together change nothing, and often swaps.
@@ -119,22 +136,31 @@ impl Pairs {
                 continue;
             };
             // Also where it is safe: rounds or updates may be too many now.
-            if self.are_equal(base, &next) {
+            if self.keeps(base, &next) {
                 source = next;
             }
         }
         source
     }
 
+    /// Rewritten in so many of a hundred cases.
+    fn perhaps_rewritten(&mut self, base: &Source, percent: usize) -> Source {
+        if self.random.chance(percent) {
+            self.rewritten(base)
+        } else {
+            base.clone()
+        }
+    }
+
     fn equal(&mut self) -> Vec<u8> {
         if self.random.chance(1) {
-            let (left, right) = templates::as_many_terms_as_can_be(&mut self.random);
+            let (left, right) = templates::as_many_terms_as_can_be(&mut self.random, "inout");
             return frame(&bytes_of(&left), &bytes_of(&right));
         }
         let mut input = Vec::new();
         for _ in 0..ATTEMPTS {
-            let base = self.base();
-            let left = if self.random.chance(50) { self.rewritten(&base) } else { base.clone() };
+            let base = self.whole_base();
+            let left = self.perhaps_rewritten(&base, 50);
             let right = self.rewritten(&base);
             input = frame(&bytes_of(&left), &bytes_of(&right));
             if self.are_equal(&left, &right) {
@@ -145,18 +171,49 @@ impl Pairs {
     }
 
     pub(super) fn differs(&mut self) -> Vec<u8> {
-        let mut input = Vec::new();
+        let kind = self.random.below(100);
         for _ in 0..ATTEMPTS {
-            let base = self.base();
-            let left = if self.random.chance(40) { self.rewritten(&base) } else { base.clone() };
-            let changed = self.changed(&base, &left);
-            let right = changed.as_ref().unwrap_or(&base);
-            input = frame(&bytes_of(&left), &bytes_of(right));
-            if changed.is_some() {
-                break;
+            let pair = match kind {
+                // An element that is left unwritten is no term.
+                0 => Some(templates::as_many_terms_as_can_be(&mut self.random, "out")),
+                1..70 => self.with_a_change(),
+                70..88 => self.unwritten_on_one_side(),
+                _ => self.unwritten_on_both_sides(),
+            };
+            if let Some((left, right)) = pair {
+                return frame(&bytes_of(&left), &bytes_of(&right));
             }
         }
-        input
+        self.equal()
+    }
+
+    fn with_a_change(&mut self) -> Option<(Source, Source)> {
+        let base = if self.random.chance(80) { self.whole_base() } else { self.base() };
+        let left = self.perhaps_rewritten(&base, 40);
+        let right = self.changed(&base, &left)?;
+        Some((left, right))
+    }
+
+    /// Two of a program, one of which lacks an update that writes an out
+    /// element, the first that differs.
+    fn unwritten_on_one_side(&mut self) -> Option<(Source, Source)> {
+        let whole = self.whole_base();
+        let lacking = leave_out(&whole, &mut self.random)?;
+        let Reply::Differs { array, cell } = self.reply(&whole, &lacking) else { return None };
+        if !unwritten_by(&lacking, &mut self.work).contains(&(array, cell)) {
+            return None;
+        }
+        let pair = (self.perhaps_rewritten(&whole, 40), self.perhaps_rewritten(&lacking, 40));
+        Some(if self.random.chance(50) { (pair.1, pair.0) } else { pair })
+    }
+
+    /// A program that leaves out elements unwritten, beside itself or a rewrite.
+    fn unwritten_on_both_sides(&mut self) -> Option<(Source, Source)> {
+        let base = self.base();
+        if unwritten_by(&base, &mut self.work).is_empty() {
+            return None;
+        }
+        Some((self.perhaps_rewritten(&base, 40), self.perhaps_rewritten(&base, 70)))
     }
 
     /// One change, or a rewrite that breaks a dependence, that makes a

@@ -21,14 +21,12 @@ pub fn program(random: &mut Random, work: &mut Work) -> Source {
 
 fn attempt(random: &mut Random) -> Source {
     let (operators, arrays) = tables(random);
-    let filled = vec![false; arrays.len()];
+    let source = Source { operators, arrays, ..Source::default() };
     let nesting = if random.chance(10) { 8 } else { 4 };
-    let mut maker = Maker { random, operators, arrays, filled, fresh: Vec::new(), nesting };
-    let items = maker.program();
-    let (operators, arrays) = (maker.operators, maker.arrays);
+    let items = Maker { nesting, ..Maker::over(&source, random) }.program();
     // Without a mark too.
     let version = random.chance(10).then_some(SECOND_VERSION);
-    Source { version, operators, arrays, items }
+    Source { version, items, ..source }
 }
 
 /// In some tables, some operators of two arguments become marked.
@@ -75,10 +73,10 @@ fn extents(random: &mut Random) -> Vec<u16> {
 /// The loops around an item: what each index may be, how many rounds they make
 /// together at most, and how deep loops and guards nest.
 #[derive(Clone, Default)]
-struct Scope {
-    ranges: Vec<(i32, i32)>,
-    rounds: usize,
-    nesting: usize,
+pub(super) struct Scope {
+    pub ranges: Vec<(i32, i32)>,
+    pub rounds: usize,
+    pub nesting: usize,
 }
 
 impl Scope {
@@ -97,10 +95,10 @@ impl Scope {
     }
 }
 
-struct Maker<'a> {
+pub(super) struct Maker<'a> {
     random: &'a mut Random,
-    operators: Vec<u8>,
-    arrays: Vec<Declaration>,
+    operators: &'a [u8],
+    arrays: &'a [Declaration],
     /// Arrays all of whose cells are written.
     filled: Vec<bool>,
     /// Elements that are written on every way to the present place.
@@ -108,28 +106,60 @@ struct Maker<'a> {
     nesting: usize,
 }
 
-impl Maker<'_> {
-    fn program(&mut self) -> Vec<Item> {
+impl<'a> Maker<'a> {
+    /// Makes items over a program's tables, as if nothing were written yet.
+    pub fn over(source: &'a Source, random: &'a mut Random) -> Maker<'a> {
+        let filled = vec![false; source.arrays.len()];
+        let (operators, arrays) = (&source.operators, &source.arrays);
+        Maker { random, operators, arrays, filled, fresh: Vec::new(), nesting: 4 }
+    }
+
+    fn program(mut self) -> Vec<Item> {
+        let scope = Scope { rounds: 1, ..Scope::default() };
+        let mut items = self.fillings();
+        let count = 1 + self.random.below(3);
+        items.extend(self.items(&scope, count));
+        items.extend(self.own_nests(&scope));
+        items
+    }
+
+    /// Some arrays are filled first, which the items behind may read.
+    fn fillings(&mut self) -> Vec<Item> {
         let mut items = Vec::new();
         for array in 0..self.arrays.len() {
-            let role = self.arrays[array].role;
-            if !role.starts_alike() && self.random.chance(50) {
-                items.push(self.fill(array));
+            if !self.arrays[array].role.starts_alike() && self.random.chance(40) {
+                items.push(self.whole(array, 1));
             }
         }
-        let count = 1 + self.random.below(3);
-        items.extend(self.items(&Scope { rounds: 1, ..Scope::default() }, count));
+        items
+    }
+
+    /// Some of the other out arrays are written whole by a nest, and more may
+    /// follow it.
+    fn own_nests(&mut self, scope: &Scope) -> Vec<Item> {
+        let mut items = Vec::new();
+        for array in 0..self.arrays.len() {
+            let unfilled = self.arrays[array].role == Role::Out && !self.filled[array];
+            if unfilled && self.random.chance(40) {
+                let (levels, behind) = (1 + self.random.below(3), self.random.below(2));
+                items.push(self.whole(array, levels));
+                items.extend(self.items(scope, behind));
+            }
+        }
         items
     }
 
     /// Loops that write every cell of the array.
-    fn fill(&mut self, array: usize) -> Item {
+    pub fn whole(&mut self, array: usize, levels: usize) -> Item {
         let extents = self.arrays[array].extents.clone();
         let ranges = extents.iter().map(|&extent| (0, i32::from(extent) - 1)).collect();
         let scope = Scope { ranges, rounds: 1, nesting: extents.len() };
         let loops = extents.len();
         let subscripts = (0..loops).map(|position| Form::index(position, loops)).collect();
-        let value = self.expression(&scope, 1);
+        // What is fresh has its subscripts outside of these loops.
+        let fresh = std::mem::take(&mut self.fresh);
+        let value = self.expression(&scope, levels);
+        self.fresh = fresh;
         let mut item = Item::Statement(Statement { target: array, subscripts, value });
         for position in (0..loops).rev() {
             let last = i32::from(extents[position]) - 1;
@@ -258,7 +288,7 @@ impl Maker<'_> {
         Expression::Operator { number, arguments: (0..arity).map(argument).collect() }
     }
 
-    fn expression(&mut self, scope: &Scope, levels: usize) -> Expression {
+    pub fn expression(&mut self, scope: &Scope, levels: usize) -> Expression {
         if levels == 0 || self.operators.is_empty() || self.random.chance(10) {
             return self.leaf(scope);
         }

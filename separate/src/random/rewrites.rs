@@ -68,7 +68,7 @@ fn holder<'a>(items: &'a mut Vec<Item>, path: &[usize]) -> (&'a mut Vec<Item>, u
 }
 
 /// Puts other items in the place of one of those wanted.
-fn at_item(
+pub fn at_item(
     source: &Source,
     random: &mut Random,
     wanted: &dyn Fn(&Item) -> bool,
@@ -525,18 +525,10 @@ mod tests {
     use super::*;
     use crate::random::programs::program;
     use crate::random::templates;
+    use crate::random::unwritten::with_inout;
     use crate::reply::Reply;
     use crate::tree::encode;
     use crate::work::Work;
-
-    /// Inout for out: what both sides leave unwritten is no difference then.
-    fn with_inout(source: &Source) -> Source {
-        let mut source = source.clone();
-        source.arrays.iter_mut().filter(|array| array.role == Role::Out).for_each(|array| {
-            array.role = Role::Inout;
-        });
-        source
-    }
 
     /// How often a rewrite applied, and how often the result was equal. A
     /// program that has grown beyond a limit counts as neither.

@@ -109,8 +109,8 @@ pub fn large(random: &mut Random) -> Source {
         2 => many_nodes(random.between(2_000, 2_048)),
         3 => product(12, 12, random.between(9, 12)),
         4 => many_statements(random),
-        5 => many_sums(random.between(1_000, 1_023), random.chance(50), THREE),
-        _ => many_terms(random.between(1_000, 1_024), 0, 0),
+        5 => many_sums("out", random.between(1_000, 1_023), random.chance(50), THREE),
+        _ => many_terms("out", random.between(1_000, 1_024), 0, 0),
     };
     marked(&text, random)
 }
@@ -132,7 +132,7 @@ fn many_rounds(random: &mut Random) -> String {
 }
 
 fn many_updates(first: i32, second: i32) -> String {
-    let (first, second) = (first - 1, second - 1);
+    let (first, second) = (first - 1, second.min(first) - 1);
     format!(
         "op f/2 array A inout [32, 32] array B out [1024]
         for i = 0 to {first} {{ B[i] = f(A[31, 0], i) }}
@@ -162,11 +162,12 @@ fn many_statements(random: &mut Random) -> String {
 }
 
 /// Twice `first` literals and a term for each, and a few terms more; a shift
-/// makes them other literals. With 1,024 and nothing more: 4,096 terms.
-fn many_terms(first: i32, more: i32, shift: i32) -> String {
+/// makes them other literals. With 1,024 and nothing more: 4,096 terms. A and B
+/// have the role, and elements that nothing writes.
+fn many_terms(role: &str, first: i32, more: i32, shift: i32) -> String {
     let last = first - 1;
     let mut text = format!(
-        "op f/1 array A out [1023] array B out [1024] array C out [1]
+        "op f/1 array A {role} [1023] array B {role} [1024] array C out [1]
         for i = 0 to {last} {{ C[0] = f(i + {shift}) }}
         for i = 0 to {last} {{ B[i] = f(i + {}) }}
         ",
@@ -182,41 +183,51 @@ fn many_terms(first: i32, more: i32, shift: i32) -> String {
 const THREE: &str = "A[0] = add(const 0, const 1)";
 
 /// Twice so many sums of two literals each, which may swap. With 1,023 of them
-/// 2,047 literals and 2,046 sums; the same the other way round adds none.
-fn many_sums(sums: i32, swapped: bool, more: &str) -> String {
+/// 2,047 literals and 2,046 sums; the same the other way round adds none. A and
+/// B as in `many_terms`.
+fn many_sums(role: &str, sums: i32, swapped: bool, more: &str) -> String {
     let last = sums - 1;
     let [far, near] =
         if swapped { ["i + 1024, i", "i + 1, i"] } else { ["i, i + 1024", "i, i + 1"] };
     format!(
-        "op add/2* array A out [1023] array B out [1024] array C out [1]
+        "op add/2* array A {role} [1023] array B {role} [1024] array C out [1]
         for i = 0 to {last} {{ C[0] = add({far}) }}
         for i = 0 to {last} {{ B[i] = add({near}) }}
         {more}"
     )
 }
 
-/// Two programs that are equal and have 4,096 terms up to swaps, and with both
-/// orders more.
-pub fn as_many_terms_as_can_be(random: &mut Random) -> (Source, Source) {
-    let left = many_sums(1_023, random.chance(50), THREE);
-    let right = many_sums(1_023, random.chance(50), "A[0] = add(const 1, const 0)");
+/// Two programs that have 4,096 terms up to swaps, and with both orders more.
+/// They are equal if the role is inout, and leave elements unwritten if it is
+/// out.
+pub fn as_many_terms_as_can_be(random: &mut Random, role: &str) -> (Source, Source) {
+    let left = many_sums(role, 1_023, random.chance(50), THREE);
+    let right = many_sums(role, 1_023, random.chance(50), "A[0] = add(const 1, const 0)");
     (source(&left), source(&right))
 }
 
 /// Two programs with too many terms together; each side alone may have enough.
 pub fn too_many_terms(random: &mut Random) -> (Source, Source) {
     let other = random.between(1, 20_000);
+    let role = *random.pick(&["out", "inout"]);
     let (left, right) = match random.below(4) {
         // 4,097 up to swaps, the last of them on the right.
         3 => {
             let last = *random.pick(&["A[1] = const 2", "A[1] = add(const 1, const 1)"]);
             let (one, other) = (random.chance(50), random.chance(50));
-            let right = many_sums(random.between(1, 1_023), other, &format!("{THREE} {last}"));
-            (many_sums(1_023, one, THREE), right)
+            let more = format!("{THREE} {last}");
+            let right = many_sums(role, random.between(1, 1_023), other, &more);
+            (many_sums(role, 1_023, one, THREE), right)
         }
-        0 => (many_terms(1_023, 5, 0), many_terms(1_023, 0, 0)),
-        1 => (many_terms(1_024, 0, 0), many_terms(random.between(1, 30), 0, other)),
-        _ => (many_terms(1_022, 0, 0), many_terms(random.between(530, 1_024), 0, other + 1_500)),
+        0 => (many_terms(role, 1_023, 5, 0), many_terms(role, 1_023, 0, 0)),
+        1 => {
+            let few = random.between(1, 30);
+            (many_terms(role, 1_024, 0, 0), many_terms(role, few, 0, other))
+        }
+        _ => {
+            let right = many_terms(role, random.between(530, 1_024), 0, other + 1_500);
+            (many_terms(role, 1_022, 0, 0), right)
+        }
     };
     let pair = (source(&left), source(&right));
     if random.chance(50) {
