@@ -39,6 +39,9 @@ One line goes to standard output:
   differs A E     cell E of array A is the first that some content and meaning tell apart                      status 1
   refused S K P   question K has a "no" for side S (left, right, both or input) at place P                     status 2
 
+In and inout arrays start alike on both sides; each side has out contents of its own. So an out element that a side does not write
+is a difference, also where neither side writes it.
+
 Of an operator that is marked (`op NAME/2*` in a text) only meanings count that give the same result for both orders of its
 arguments.
 
@@ -54,7 +57,8 @@ reply: on `differs` the element with its subscripts, on `refused` the question a
                   Bytes count from 0: the statement's first, and the first behind it. Then each index around it, outermost
                   first, with its value (none outside of loops). Then the statement in the text that `separate dis` makes of
                   the program, with that text's names for arrays (A, B), operators (f0, f1) and indices (i, j). Standard error
-                  has the line and column in a text. Where `separate` can't be built a difference has no reply
+                  has the line and column in a text, and says which side does not write an out element. Where `separate`
+                  can't be built a difference has no reply
   --places        on `refused`, the line for a program file too, in the text that `separate dis --places` makes of it
   --unproved      ask the separately written program, which is not proved but is built in seconds; each line on standard error
                   says so
@@ -76,6 +80,7 @@ KEPT = os.path.join(ROOT, 'target', 'tengmua')
 PROGRAM = 16384  # bytes of the longest program
 FRAMED = 32771  # bytes of standard input that decide the reply
 STATEMENT = 1  # the code byte of a statement
+OUT = 1  # the byte of the role of arrays in which an element that a side does not write is a difference
 LOCAL = 3  # the byte of the role of arrays that are not compared
 MARKED = 0x82  # the byte of an operator of two arguments that may swap
 TEXT = 1 << 20  # bytes of the longest text that is taken
@@ -579,7 +584,7 @@ class Names:
 
     def declared(self, what, number):
         """Name and place in the text of a declared array, no local, or operator; without a text the names of `separate dis`."""
-        known, name = (extents_of, chr(ord('A') + number)) if what == 'role' else (operators_of, f'f{number}')
+        known, name = (arrays_of, chr(ord('A') + number)) if what == 'role' else (operators_of, f'f{number}')
         if number >= len(known(self.file.bytes)):
             return None, shown(self.file.name)
         if self.file.text is None:
@@ -588,14 +593,14 @@ class Names:
         return rows[number][3].split(' ')[1], f'{shown(self.file.name)}: line {rows[number][1]}, column {rows[number][2]}'
 
 
-def extents_of(data):
-    """The extents of each array of a program that was read, without the locals, which come last."""
+def arrays_of(data):
+    """Role and extents of each array of a program that was read, without the locals, which come last."""
     at = 6 + data[5]
     arrays = []
     for _ in range(data[at]):
         role, dimensions = data[at + 1:at + 3]
         if role != LOCAL:
-            arrays.append(struct.unpack_from(f'<{dimensions}H', data, at + 3))
+            arrays.append((role, struct.unpack_from(f'<{dimensions}H', data, at + 3)))
         at += 2 + 2 * dimensions
     return arrays
 
@@ -614,13 +619,24 @@ def element(name, extents, cell):
 
 
 def explain_differs(array, cell, files, origins):
-    extents = extents_of(files[0].bytes)[array]
+    role, extents = arrays_of(files[0].bytes)[array]
     names = [Names(file).declared('role', array)[0] for file in files]
     both = [element(name, extents, cell) for name in names]
     say(f'the first difference is in {both[0]}' + ('' if names[0] == names[1] else f' (on the right {both[1]})'))
     for file, what, origin in zip(files, both, origins):
         if file.text is not None and origin is not None:
             say(f'{Names(file).at(origin.start)}: the statement that writes {what} last')
+    if role == OUT:
+        explain_unwritten(both, origins)
+
+
+def explain_unwritten(both, origins):
+    """Which sides do not write an out element, as each of them calls it: this alone makes it a difference."""
+    sides = [(side, what) for side, what, origin in zip(SIDES, both, origins) if origin is None]
+    if sides:
+        side, what = sides[0]
+        who = f'the {side} program does not write' if len(sides) == 1 else 'neither program writes'
+        say(f'{who} {what}: an out element that a side does not write is a difference')
 
 
 def explain_refused(side, number, place, files, places):
