@@ -7,7 +7,9 @@
  *
  * What each reply means is in docs/FORMAT.md: "equal" says that both programs leave the same value in each compared element for every
  * starting content and every meaning of the operators and constants in which each marked operator gives the same result for both
- * orders of its arguments. The promises are crates/cabi/src/lib.rt's. */
+ * orders of its arguments; "differs" names the first element of which that is not so. In and inout arrays start alike on both sides;
+ * each side has out contents of its own, so a compared out element differs if either side leaves it unwritten. The promises are
+ * crates/cabi/src/lib.rt's. */
 #ifndef TENGMUA_H
 #define TENGMUA_H
 
@@ -32,7 +34,7 @@ enum tengmua_side { TENGMUA_LEFT = 0, TENGMUA_RIGHT = 1, TENGMUA_BOTH = 2, TENGM
 /* kind      first                          second            third
  * EQUAL     number of elements compared    0                 0
  * DIFFERS   array                          cell              0
- * REFUSED   side                           question, 1..26   place
+ * REFUSED   side                           question, 2..26   place
  * Of tengmua_unroll, EQUAL has the number of updates; of tengmua_check_list, 0. */
 typedef struct {
     size_t kind;
@@ -75,8 +77,8 @@ enum tengmua_origin { TENGMUA_WRITTEN = 0, TENGMUA_STARTING = 1 };
  * WRITTEN    array and cell of the element; from and to: the bytes of the chosen program, from one place up to and without the
  *            other, that hold the statement which wrote the element last; count: the loops around it; indices: their values in
  *            that update, outermost first
- * STARTING   array and cell of the element, which that program never wrote
- * REFUSED    side, question (1..27) and place, as of a reply; 27: there is no difference to explain
+ * STARTING   array and cell of the element, which that program never wrote; of an out element both programs can have it
+ * REFUSED    side, question (2..27) and place, as of a reply; 27: there is no difference to explain
  * The numbers that a kind does not have are 0, and so are the indices beyond the count. */
 typedef struct {
     size_t kind;

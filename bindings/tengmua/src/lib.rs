@@ -26,6 +26,8 @@
 //! assert_eq!((written.bytes, written.indices()), (&forwards[22..32], &[1][..]));
 //! let right = work.explain(forwards, &shorter, ALL, Chosen::Right);
 //! assert_eq!(right, Explanation::Starting { array: 1, cell: 1 });
+//! // Each side has out contents of its own, so what neither writes differs too.
+//! assert_eq!(work.programs(&shorter, &shorter, ALL).to_string(), "differs 1 1");
 //! ```
 
 mod raw;
@@ -61,9 +63,10 @@ pub struct Refusal {
 
 #[derive(Clone, Copy, Debug, PartialEq, Eq)]
 pub enum Reply {
-    /// How many elements were compared.
+    /// How many elements were compared: both sides leave the same value in each, for every starting content and every meaning
+    /// that respects the marks. In and inout arrays start alike on both sides; each side has out contents of its own.
     Equal(usize),
-    /// Array and cell of the first difference.
+    /// Array and cell of the first difference: also an out element that either side leaves unwritten.
     Differs(usize, usize),
     Refused(Refusal),
 }
@@ -100,7 +103,7 @@ impl Written<'_> {
 #[derive(Clone, Copy, Debug, PartialEq, Eq)]
 pub enum Explanation<'a> {
     Written(Written<'a>),
-    /// That program never wrote the element.
+    /// That program never wrote the element. Both programs can have it of an out element.
     Starting {
         array: usize,
         cell: usize,

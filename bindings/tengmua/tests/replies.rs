@@ -49,9 +49,11 @@ fn marks_of_a_list() {
     assert_eq!(unroll(example!("blur-swapped"), &mut right), Ok(400));
     assert_eq!([left[1], right[1]], [0x82; 2]);
     assert_eq!(work.lists(&left, &right, ALL), Reply::Equal(400));
-    // The first updates alone, of 17 nodes each: all of them have too many terms without the mark.
-    [&mut left, &mut right].map(|list| list[98 + 3 * 18..].fill(0));
-    assert_eq!(work.lists(&left, &right, ALL), Reply::Equal(400));
+    // The first updates alone, of 17 nodes each: all of them have too many terms without the mark. The other elements are unwritten.
+    for list in [&mut left, &mut right] {
+        list[98 + 3 * 18..].fill(0);
+    }
+    assert_eq!(work.lists(&left, &right, ALL), Reply::Differs(1, 1));
     right[1] = 2;
     let other_marks = Refusal { side: Side::Both, question: 23, place: 0 };
     assert_eq!(work.lists(&left, &right, ALL), Reply::Refused(other_marks));
@@ -109,6 +111,25 @@ fn starting_content_and_refusals() {
     assert_eq!(line(copy, example!("copy-reversed"), ALL), ["refused both 27 0"; 2]);
     assert_eq!(line(copy, example!("outside"), ALL), ["refused right 16 22"; 2]);
     assert_eq!(line(&[], copy, ALL), ["refused left 3 0"; 2]);
+}
+
+/// An out element that neither side writes differs, unless the mask leaves its array out; an inout element starts alike.
+#[test]
+fn unwritten_output_differs() {
+    let mut work = Work::default();
+    let mut none = example!("copy").to_vec();
+    // The loop's start is behind its end.
+    none[16] = 2;
+    assert_eq!(work.programs(&none, &none, ALL), Reply::Differs(1, 0));
+    assert_eq!(work.programs(&none, &none, !2), Reply::Equal(0));
+    let starting = Explanation::Starting { array: 1, cell: 0 };
+    assert_eq!(BOTH.map(|chosen| work.explain(&none, &none, ALL, chosen)), [starting; 2]);
+    let mut list = vec![7; LIST_WORDS];
+    assert_eq!(unroll(&none, &mut list), Ok(0));
+    assert_eq!(work.lists(&list, &list, ALL), Reply::Differs(1, 0));
+    let mut inout = none;
+    assert_eq!(std::mem::replace(&mut inout[11], 2), 1);
+    assert_eq!(work.programs(&inout, &inout, ALL), Reply::Equal(2));
 }
 
 #[test]
