@@ -67,7 +67,7 @@ const CHANGES: [(&str, &str); 6] = [
     ("= B[c - 2*t - 1]", "= A[c - 2*t - 1]"),
     ("B[y, x] =", "B[x, y] ="),
     ("fma(A[i, k], B[k, j]", "fma(B[k, j], A[i, k]"),
-    ("array A out [1]", "array A out [1] A[0] = const 1"),
+    ("array A inout [1]", "array A inout [1] A[0] = const 1"),
     ("f(i + 1024)", "f(i + 1023)"),
 ];
 
@@ -80,7 +80,8 @@ pub fn explained(seed: u64) -> Vec<Explained> {
         .map(|((name, left, right), (from, to))| workload(name, left, &right.replace(from, to)))
         .collect();
     workloads.push(differing(1_000, seed));
-    workloads.push(workload("65,536 rounds beside none", "array A out [1]", &rounds_and_update()));
+    let nothing = "array A inout [1]";
+    workloads.push(workload("65,536 rounds beside none", nothing, &rounds_and_update()));
     let explained = |workload| Explained { workload, chosen: Chosen::Right };
     workloads.into_iter().map(explained).collect()
 }
@@ -98,9 +99,10 @@ fn differing(count: usize, seed: u64) -> Workload {
     Workload { name: format!("{count} mixed pairs"), pairs: pairs.take(count).collect() }
 }
 
+/// Both arrays are inout: the points at the ends are not written.
 fn jacobi(points: i32, steps: i32) -> String {
     format!(
-        "op add/2 op mul/2 array A inout [{points}] array B out [{points}]
+        "op add/2 op mul/2 array A inout [{points}] array B inout [{points}]
         for t = 1 to {steps} {{
           for i = 1 to {last} {{ B[i] = mul(const 33333, add(add(A[i - 1], A[i]), A[i + 1])) }}
           for i = 1 to {last} {{ A[i] = B[i] }}
@@ -112,7 +114,7 @@ fn jacobi(points: i32, steps: i32) -> String {
 /// The same in waves: point i of time t at c = i + 2t, the copy back one behind.
 fn jacobi_skewed(points: i32, steps: i32) -> String {
     format!(
-        "op add/2 op mul/2 array A inout [{points}] array B out [{points}]
+        "op add/2 op mul/2 array A inout [{points}] array B inout [{points}]
         for c = 1 to {end} {{ for t = 0 to {last_step} {{
           if c - 2*t - 1 >= 0 {{ if {last} - c + 2*t >= 0 {{
             B[c - 2*t] =
@@ -136,15 +138,16 @@ fn product(order: &str) -> String {
     )
 }
 
-const ROUNDS_NESTED: &str = "array A out [1] for i = 1 to 256 { for j = 1 to 255 { } }";
-const ROUNDS_FLAT: &str = "array A out [1] for i = 0 to 32767 { } for i = 0 to -32767 step -1 { }";
+const ROUNDS_NESTED: &str = "array A inout [1] for i = 1 to 256 { for j = 1 to 255 { } }";
+const ROUNDS_FLAT: &str =
+    "array A inout [1] for i = 0 to 32767 { } for i = 0 to -32767 step -1 { }";
 
 /// Four terms for each of `count`: two literals, and an operator over each.
 fn terms(count: i32, backwards: bool) -> String {
     let last = count - 1;
     let range = if backwards { format!("{last} to 0 step -1") } else { format!("0 to {last}") };
     format!(
-        "op f/1 array B out [1024] array C out [1024]
+        "op f/1 array B out [{count}] array C out [{count}]
         for i = {range} {{ B[i] = f(i) }}
         for i = {range} {{ C[i] = f(i + 1024) }}"
     )
@@ -195,7 +198,7 @@ pub fn growths() -> Vec<Growth> {
         }),
         growth("rounds", 2_048, 65_536, |n| {
             let (one, other) = (n / 2 - 1, n / 2 - 1);
-            format!("array A out [1] for i = 0 to {one} {{ }} for i = 0 to {other} {{ }}")
+            format!("array A inout [1] for i = 0 to {one} {{ }} for i = 0 to {other} {{ }}")
         }),
         growth("terms", 128, 4_096, |n| terms(n as i32 / 4, false)),
     ]

@@ -41,6 +41,16 @@ fn each_explained_pair_differs() {
     assert_eq!(sizes, [1, 1, 1, 1, 1, 1, 1_000, 1]);
 }
 
+/// A comparison that ended at a difference would be timed in part.
+#[test]
+fn each_growth_is_equal() {
+    let mut work = Work::default();
+    for (size, Pair { left, right }) in growths().into_iter().flat_map(|growth| growth.sizes) {
+        let reply = work.programs(&left, &right, ALL);
+        assert!(matches!(reply, Reply::Equal(_)), "size {size}: {reply}");
+    }
+}
+
 #[test]
 fn each_growth_has_its_sizes() {
     for growth in growths() {
