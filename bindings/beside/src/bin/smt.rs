@@ -1,8 +1,9 @@
 //! smt FOLDER [SEED]: writes each pair of the workloads that is not refused as two QF_UF queries, FOLDER/WORKLOAD-PAIR.named.smt2
 //! (a constant and an equation for each update) and .inlined.smt2 (a definition for each). `unsat` is "equal": no contents and no
-//! meaning tell the unrolled programs apart. That the arguments of a marked operator may swap is an equation for each of its
-//! applications: a meaning in which these hold can be changed elsewhere into one that respects the marks, so the verdict is the
-//! same. The first line has the verdict that is expected and the workload's name.
+//! meaning tell the unrolled programs apart. An out element that a side does not write is a constant of that side's own, so that
+//! some content tells it from what the other side has there. That the arguments of a marked operator may swap is an equation for
+//! each of its applications: a meaning in which these hold can be changed elsewhere into one that respects the marks, so the
+//! verdict is the same. The first line has the verdict that is expected and the workload's name.
 
 use std::collections::BTreeSet;
 use std::fmt::Write;
@@ -11,7 +12,7 @@ use std::path::Path;
 use beside::workloads::{all, Pair};
 use separate::limits::LIST_WORDS;
 use separate::list::{code, decode, List, Record};
-use separate::tables::{arity, Tables, MARKED};
+use separate::tables::{arity, Role, Tables, MARKED};
 use tengmua::{Reply, Work, ALL};
 
 /// One side's updates as text, and what each cell holds last.
@@ -40,10 +41,20 @@ struct Query {
     named: bool,
 }
 
+/// The constant for a cell that the side has not written: one of its own for an out cell, otherwise the one that both share. A
+/// local cell is not read before it is written, and not compared.
+fn start(side: &Side, tables: &Tables, array: u32, cell: u32) -> String {
+    match tables.arrays()[array as usize].role {
+        Role::Out => format!("s{}{array}_{cell}", side.name),
+        _ => format!("s{array}_{cell}"),
+    }
+}
+
 impl Query {
     fn held(&mut self, side: &Side, tables: &Tables, array: u32, cell: u32) -> String {
         let at = tables.first_cell(array as usize) + cell as usize;
-        side.cells[at].clone().unwrap_or_else(|| self.leaves.leaf(format!("s{array}_{cell}")))
+        let written = side.cells[at].clone();
+        written.unwrap_or_else(|| self.leaves.leaf(start(side, tables, array, cell)))
     }
 
     /// The expression that begins with the first of the records, which are used up.
