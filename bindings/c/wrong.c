@@ -1,4 +1,4 @@
-/* A library that is wrong in one thing (FAULT 1 to 9), in place of libcabi.a: the harness must find each, or it could not fail.
+/* A library that is wrong in one thing (FAULT 1 to 10), in place of libcabi.a: the harness must find each, or it could not fail.
  * Without a fault (0) it is the separately written checker, and must pass. */
 #include <string.h>
 
@@ -58,10 +58,13 @@ tengmua_explanation tengmua_explain(const uint8_t *left, size_t left_length, con
     tengmua_explanation explanation =
         twin_explain(left, left_length, right, right_length, mask, side, left_list, left_list_length, right_list,
                      right_list_length, cells, cells_length, terms, terms_length);
-    if (FAULT == 7 && explanation.kind != TENGMUA_REFUSED) {
-        tengmua_explanation nothing = {.kind = TENGMUA_REFUSED, .side = TENGMUA_BOTH, .question = 27};
+    tengmua_explanation nothing = {.kind = TENGMUA_REFUSED, .side = TENGMUA_BOTH, .question = 27};
+    if (FAULT == 7 && explanation.kind != TENGMUA_REFUSED)
         explanation = nothing; /* nothing to explain, where there is a difference */
-    }
+    if (FAULT == 10 && explanation.kind == TENGMUA_STARTING &&
+        twin_explain(left, left_length, right, right_length, mask, !side, left_list, left_list_length, right_list,
+                     right_list_length, cells, cells_length, terms, terms_length).kind == TENGMUA_STARTING)
+        explanation = nothing; /* an out element that neither side writes passes */
     if (FAULT == 8 && explanation.question != 25)
         right_list[0] = 1; /* work memory is not all zeros */
     if (FAULT == 9 && explanation.count < TENGMUA_LOOPS)

@@ -29,6 +29,8 @@ enum Wrong {
     ChangesAnIndex,
     LeavesExplainWork,
     ClearsUnderShortExplain,
+    /// Out arrays start alike on both sides, so that what neither writes passes.
+    PassesUnwritten,
 }
 
 struct Checked(Wrong);
@@ -42,6 +44,14 @@ fn other(reply: Reply) -> Reply {
 
 fn is_short(reply: Reply) -> bool {
     matches!(reply, Reply::Refused(Refusal { question: 25, .. }))
+}
+
+/// The list with inout arrays for its out arrays.
+fn starting_alike(list: &[u32]) -> Vec<u32> {
+    let mut list = list.to_vec();
+    // The role is the first of an array's five words.
+    list[18..98].iter_mut().step_by(5).filter(|role| **role == 1).for_each(|role| *role = 2);
+    list
 }
 
 /// Whatever the lengths, something is there to be spoilt.
@@ -72,10 +82,13 @@ impl Checker for Checked {
         if self.0 == Wrong::LeavesListWork {
             spoil(c);
         }
-        if self.0 == Wrong::ReplyToLists {
-            other(reply)
-        } else {
-            reply
+        match (self.0, reply) {
+            (Wrong::ReplyToLists, _) => other(reply),
+            (Wrong::PassesUnwritten, Reply::Differs(..)) => {
+                let [left, right] = [left, right].map(starting_alike);
+                Separate.lists(&left, &right, mask, [c, d])
+            }
+            _ => reply,
         }
     }
 
@@ -145,17 +158,26 @@ fn changed<'a>(wrong: Wrong, explanation: Explanation<'a>) -> Explanation<'a> {
     }
 }
 
+fn list_of(program: &[u8]) -> Vec<u32> {
+    let mut list = vec![0; LIST_WORDS];
+    separate::unroll(program, &mut list).expect("a list");
+    list
+}
+
 /// Does some of many calls of every entry find a difference?
 fn found(wrong: Wrong) -> bool {
     let mut beside = Beside::new(Checked(wrong), Separate, 1);
-    let program = assemble("array A in [2] array B out [2] B[0] = A[1]").expect("a program");
-    let text = "array A in [2] array B out [2] for i = 1 to 0 step -1 { B[0] = A[i] }";
-    let longer = assemble(text).expect("a program");
-    let mut list = vec![0; LIST_WORDS];
-    separate::unroll(&program, &mut list).expect("a list");
+    let [program, longer, partial] = [
+        "array A in [2] array B out [1] B[0] = A[1]",
+        "array A in [2] array B out [1] for i = 1 to 0 step -1 { B[0] = A[i] }",
+        "array A in [2] array B out [2] B[0] = A[1]",
+    ]
+    .map(|text| assemble(text).expect("a program"));
+    let [list, unwritten] = [&program, &partial].map(|program| list_of(program));
     (0..300).any(|_| {
         beside.programs(&program, &program, tengmua::ALL).is_err()
             || beside.lists(&list, &list, tengmua::ALL).is_err()
+            || beside.lists(&unwritten, &unwritten, tengmua::ALL).is_err()
             || beside.unroll(&program).is_err()
             || beside.check(&list).is_err()
             || beside.explain(&program, &longer, tengmua::ALL, Chosen::Right).is_err()
@@ -181,6 +203,7 @@ fn each_wrong_checker_is_found_out() {
         ChangesAnIndex,
         LeavesExplainWork,
         ClearsUnderShortExplain,
+        PassesUnwritten,
     ]
     .into_iter()
     .enumerate()
