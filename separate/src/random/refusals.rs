@@ -295,8 +295,8 @@ fn subscript_outside(mut source: Source, random: &mut Random) -> Option<Vec<u8>>
     source.fits().then(|| bytes_of(&source))
 }
 
-/// Some reads become reads of an array that has no starting contents, or a
-/// first statement is taken away.
+/// An item is missing, an inout array becomes out, or a local that nothing
+/// writes is read.
 fn unwritten_read(mut source: Source, random: &mut Random) -> Option<Vec<u8>> {
     match random.below(3) {
         0 => {
