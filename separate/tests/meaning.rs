@@ -135,18 +135,23 @@ fn check(reply: Reply, left: &List, right: &List, mask: u16) {
     }
 }
 
+/// Equal, differs, refused with 24.
+fn kind(reply: Reply) -> Option<usize> {
+    match reply {
+        Reply::Equal { .. } => Some(0),
+        Reply::Differs { .. } => Some(1),
+        Reply::Refused { number: 24, .. } => Some(2),
+        Reply::Refused { .. } => None,
+    }
+}
+
 #[test]
 fn random_pairs_are_answered_as_values_say() {
     let mut work = Work::default();
     let mut counts = [0; 3];
     for input in Pairs::new(1_234).take(2_500) {
         let reply = work.input(&input);
-        let kind = match reply {
-            Reply::Equal { .. } => 0,
-            Reply::Differs { .. } => 1,
-            Reply::Refused { number: 24, .. } => 2,
-            _ => continue,
-        };
+        let Some(kind) = kind(reply) else { continue };
         let left = usize::from(u16::from_le_bytes([input[0], input[1]]));
         let lists = [&input[2..2 + left], &input[2 + left..]].map(|program| {
             let mut list = vec![0; LIST_WORDS];
@@ -167,12 +172,7 @@ fn random_lists_are_answered_as_values_say() {
     for pair in ListPairs::new(4_321).take(1_500) {
         let (left, right) = (pair.left.slice(), pair.right.slice());
         let reply = work.lists(&left, &right, pair.mask);
-        let kind = match reply {
-            Reply::Equal { .. } => 0,
-            Reply::Differs { .. } => 1,
-            Reply::Refused { number: 24, .. } => 2,
-            _ => continue,
-        };
+        let Some(kind) = kind(reply) else { continue };
         let (left, right) = (decode(&left).unwrap(), decode(&right).unwrap());
         check(reply, &left, &right, pair.mask);
         counts[kind] += 1;
@@ -180,9 +180,13 @@ fn random_lists_are_answered_as_values_say() {
     assert!(counts[0] > 300 && counts[1] > 150 && counts[2] > 5, "{counts:?}");
 }
 
-/// What a list should be answered beside a new order of itself: no value
-/// differs, so an out element that is never written does or none.
+/// What a list should be answered beside a new order of itself: 24 if it alone
+/// has too many terms; no value differs, so an out element that is never
+/// written does or none.
 fn expected_of_itself(list: &List, mask: u16) -> Reply {
+    if Outcome::of(&APART, list, Side::Left).met.len() > 4_096 {
+        return Reply::Refused { side: Side::Both, number: 24, place: 0 };
+    }
     let written: HashSet<_> = list.updates().map(|(update, _)| (update[1], update[2])).collect();
     let unwritten = |&(array, cell): &(usize, usize)| {
         list.tables.arrays()[array].role == Role::Out
@@ -197,7 +201,7 @@ fn expected_of_itself(list: &List, mask: u16) -> Reply {
 #[test]
 fn a_list_beside_its_new_order() {
     let (mut work, mut random) = (Work::default(), Random::new(6));
-    let mut counts = [0; 2];
+    let mut counts = [0; 3];
     for pair in ListPairs::new(99).take(1_500) {
         let words = pair.left.slice();
         let Some(list) = decode(&words).filter(|_| words.len() >= LIST_WORDS) else { continue };
@@ -205,11 +209,8 @@ fn a_list_beside_its_new_order() {
         other.resize(LIST_WORDS, 0);
         let mask = if random.chance(50) { 0xFFFF } else { pair.mask };
         let reply = work.lists(&words, &other, mask);
-        if matches!(reply, Reply::Refused { number: 24, .. }) {
-            continue;
-        }
         assert_eq!(reply, expected_of_itself(&list, mask));
-        counts[usize::from(matches!(reply, Reply::Equal { .. }))] += 1;
+        counts[kind(reply).expect("no other refusal")] += 1;
     }
-    assert!(counts[0] > 80 && counts[1] > 800, "{counts:?}");
+    assert!(counts[0] > 800 && counts[1] > 80 && counts[2] > 0, "{counts:?}");
 }
