@@ -29,7 +29,7 @@ enum Wrong {
     ChangesAnIndex,
     LeavesExplainWork,
     ClearsUnderShortExplain,
-    /// Out arrays start alike on both sides, so that what neither writes passes.
+    /// Out arrays of lists start alike on both sides, so that what neither writes passes.
     PassesUnwritten,
 }
 
