@@ -26,7 +26,7 @@ use Rattle.comparer.proofs.First.{comparedIn, ElementAt, ElementNone, f
 use Rattle.comparer.proofs.KeptLists.{among-parts, reordered-kept}
 use Rattle.comparer.proofs.Theorems.{demand3}
 
--- all arrays of a list beside itself agree
+-- a table beside itself agrees
 self-tables : {A : Type 0} (alike : A → A → Bool) → ((x : A) → alike x x ≡ true) → (question : ℕ) (agreed : Reply) (k : ℕ) (xs : List A) → sameTable alike question agreed k xs xs ≡ agreed
 self-tables alike h question agreed k [] = refl
 self-tables alike h question agreed k (x ∷ xs) = rw (h x, self-tables alike h question agreed (suc k) xs)

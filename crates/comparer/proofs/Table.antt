@@ -107,7 +107,7 @@ pub mask-bits : listsReply 2 (listOf (write 0 (cell 0 0) ∷ [])) (listOf []) �
 unfolding listsReply turned alike alikes swapsAt swaps parts partsOf termCount valueOf valuesOf
 mask-bits = refl
 
--- an out element that both sides leave unwritten is a difference, and so is one that one side leaves; an inout element is none
+-- an out element that both sides leave unwritten is a difference, and so is one that one side leaves; an inout element that is left, or written with what it held, is none
 pub unwritten-differs :
     listsReply allBits (listOf (first ∷ [])) (listOf (first ∷ [])) ∷ listsReply allBits (listOf (first ∷ write 1 (cell 0 0) ∷ [])) (listOf (first ∷ []))
     ∷ listsReply allBits (inoutList []) (inoutList []) ∷ listsReply allBits (inoutList (write 1 (cell 1 1) ∷ [])) (inoutList []) ∷ []

@@ -66,9 +66,9 @@ abbrev pub Demand2Input : Type 1
 Demand2Input =
     (s : List ℕ) → isRefused (inputReply s) ≡ false → ToldOf allBits (λ p l. unrolled p ≡ ok l) (leftIn s) (rightIn s) (inputReply s)
 
--- What a new order keeps: accepted, as long; for every meaning, and contents that are the same on in and inout arrays, the same value in
--- each cell that is written or in which they are the same;
--- the same reply beside any third slice, on either side, under any mask, with work memory of any lengths.
+-- What a new order keeps: accepted, as long; for every meaning, and two contents that are the same on in and inout arrays, the same
+-- value in each cell that is written or in which the contents are the same; the same reply beside any third slice, on either side,
+-- under any mask, with work memory of any lengths.
 pub record Kept (old new : List ℕ) (l k : Listed) : Type 1 where
   pub accepts : decode new ≡ some k
   pub size : length new ≡ length old
@@ -171,7 +171,7 @@ AlikeExactly =
     (swaps : ℕ → Bool) (t u : Tree)
     → (alike swaps t u ≡ true) ↔ ((S : Type 0) (m : Meaning S) → Respects swaps m → (h : Content S) → valueOf m t h ≡ valueOf m u h)
 
--- the different terms that the list writes, with their parts
+-- the number of terms that the list writes, with their parts, those that are alike counted once
 abbrev pub ownTerms : Listed → ℕ
 ownTerms l = termCount (swapping l) (values (l .updates) cell)
 
@@ -238,7 +238,8 @@ StartingExplained =
     (long : Bool) (mask : ℕ) (side : Chosen) (one other : List ℕ) (a e : ℕ) → explanation long mask side one other .answer ≡ Explain.starting a e
     → StartingIs mask side one other a e (explanation long mask side one other)
 
--- And there it is the answer: where both sides differ at an element that no update of the chosen side writes.
+-- And there it is the answer, in slices that are long enough: where both sides differ at an element that no update of the chosen side
+-- writes.
 abbrev pub UnwrittenExplained : Type 0
 UnwrittenExplained =
     (mask : ℕ) (side : Chosen) (one other : List ℕ) (a e : ℕ) (l : Listed) → programsReply mask one other ≡ differs a e → unrolled (chosen side one other) ≡ ok l

@@ -51,7 +51,7 @@ arrayAt xs a = getD xs a (record { role = 3; extents = 0 ∷ [] })
 abbrev pub local : Array → Bool
 local x = eqb (x .role) 3
 
--- an in or inout array: its cells have a starting content that may be read
+-- an in or inout array: its cells start alike on both sides, and may be read before they are written
 abbrev pub starts : Array → Bool
 starts x = eqb (x .role) 0 || eqb (x .role) 2
 

@@ -63,7 +63,7 @@ tables = do
   _ ← zeros (5 * (16 - m))
   give (record { operators = ops; arrays = xs })
 
--- a declared cell with a starting content, or written before
+-- a declared cell of an in or inout array, or written before
 unfoldable pub mayRead : List Array → List Update → ℕ → ℕ → Bool
 mayRead xs before a c = inside xs a c && (starts (arrayAt xs a) || written before a c)
 

@@ -261,7 +261,7 @@ fn header(list: &[u32], state: &mut [u8]) -> bool
     zeros_at(list, 18 + 5 * m, 5 * (16 - m))
 }
 
-// Has the cell a starting content that may be read, or was it written?
+// Is the cell of an in or inout array, or was it written?
 fn readable(state: &[u8], x: u32, y: u32) -> bool
     requires { ⌜ length (now state) ≡ 32768 ⌝ }
     ensures { λ r. ⌜ r ≡ readableIn (now (state .entry)) x y ⌝ }

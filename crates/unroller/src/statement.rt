@@ -344,7 +344,7 @@ fn spot_of(tables: &FlatTables, array: usize, cell: usize) -> usize
     base + cell
 }
 
-// Has the cell a starting content, or has an earlier update written it?
+// Is the cell of an in or inout array, or has an earlier update written it?
 fn may_read(tables: &FlatTables, flags: &Flags, array: usize, cell: usize) -> bool
     ensures { λ r. ⌜ r ≡ mayRead (tablesIn (now (tables .entry))) (viewed (now (tables .entry)) .bases) (now (flags .entry)) array cell ⌝ }
 {
