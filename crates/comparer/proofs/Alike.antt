@@ -11,6 +11,10 @@ use Rattle.unroller.specs.Run.{readable, readables}
 use Rattle.unroller.specs.Allowed.{readAll}
 use Rattle.comparer.specs.Meaning.{Meaning, Content, valueOf, valuesOf, updated, after}
 
+pub or-split : (a b : Bool) → (a || b) ≡ false → (a ≡ false) × (b ≡ false)
+or-split true b e = absurd (true≢false e)
+or-split false b e = (refl, e)
+
 pub written-snoc : (us : List Update) (u : Update) (a c : ℕ) → written (us ++ (u ∷ [])) a c ≡ written us a c || writes u a c
 written-snoc [] u a c = or-false (writes u a c)
 written-snoc (v ∷ us) u a c = ap (λ (b : Bool). writes v a c || b) (written-snoc us u a c) ∙ sym (or-assoc (writes v a c) (written us a c) (writes u a c))
@@ -18,13 +22,7 @@ written-snoc (v ∷ us) u a c = ap (λ (b : Bool). writes v a c || b) (written-s
 -- a cell that no update writes keeps what it held
 pub unwritten-after : {S : Type 0} (m : Meaning S) (us : List Update) (h : Content S) (a c : ℕ) → written us a c ≡ false → after m us h a c ≡ h a c
 unwritten-after m [] h a c e = refl
-unwritten-after {S} m (u ∷ us) h a c e = go (writes u a c) refl (written us a c) refl e (λ k f. unwritten-after m us k a c f)
-  where
-    go : (w : Bool) → writes u a c ≡ w → (v : Bool) → written us a c ≡ v → (w || v) ≡ false
-        → ((k : Content S) → written us a c ≡ false → after m us k a c ≡ k a c) → after m us (updated m h u) a c ≡ h a c
-    go true p v q f ih = absurd (true≢false f)
-    go false p true q f ih = absurd (true≢false f)
-    go false p false q f ih = ih (updated m h u) q ∙ rw p
+unwritten-after m (u ∷ us) h a c e = let p = or-split (writes u a c) (written us a c) e in unwritten-after m us (updated m h u) a c (p .1) ∙ rw (p .0)
 
 module _ {S : Type 0} (m : Meaning S) (xs : List Array) where
   -- the two contents agree on all that may be read after `done`

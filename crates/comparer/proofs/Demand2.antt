@@ -8,7 +8,7 @@ use mathlib.Core.Bool.{Bool, true, false, _&&_, _||_, not, cond, false≢true, t
 use lib.Dec.{eqb, leb}
 use borrow.Author.Tests.{eqb-true}
 use Rattle.model.specs.Tables.{Array, arrayAt, starts, inside}
-use Rattle.model.specs.Update.{Tree, Listed, written}
+use Rattle.model.specs.Update.{Tree, Update, Listed, written}
 use Rattle.model.specs.Update.Tree.{cell}
 use Rattle.model.specs.Reply.{Reply, equal, differs, refused, both, isRefused}
 use Rattle.terms.specs.Term.{alike, termCount}
@@ -18,7 +18,7 @@ use Rattle.comparer.specs.Match.{swapping, given, comparedSize, firstDif
 use Rattle.comparer.specs.Told.{Compared, Agree, Apart, Earlier, FirstApart, Told}
 use Rattle.comparer.proofs.Values.{after-law}
 use Rattle.comparer.proofs.Classes.{alike-value, classes, starting, classes-respect, same-class}
-use Rattle.comparer.proofs.Alike.{unwritten-after, after-alike}
+use Rattle.comparer.proofs.Alike.{or-split, unwritten-after, after-alike}
 use Rattle.comparer.proofs.First.{comparedIn, ElementAt, ElementNone, first-difference, same-place}
 use Rattle.comparer.proofs.SameTables.{sameArray-sound, tables-cases, non-local-role}
 
@@ -26,11 +26,6 @@ use Rattle.comparer.proofs.SameTables.{sameArray-sound, tables-cases, n
 both-and : (a b c : Bool) → (a && (b && c)) ≡ true → (b ≡ true) × (c ≡ true)
 both-and true b c e = and-eq-true-iff b c .0 e
 both-and false b c e = absurd (false≢true e)
-
--- neither is true
-neither : (a b : Bool) → (a || b) ≡ false → (a ≡ false) × (b ≡ false)
-neither true b e = absurd (true≢false e)
-neither false b e = (refl, e)
 
 -- it is not the second
 first-true : (a b : Bool) → (a || b) ≡ true → b ≡ false → a ≡ true
@@ -113,39 +108,40 @@ module _ (mask : ℕ) (l r : Listed) where
   apartFrom : Bool → Content Bool
   apartFrom x b d = cond (starts (arrayAt (l .tables .arrays) b)) true x
 
-  -- one side leaves the element as it was: let that be another value than the other side's
-  left-missing : (a e : ℕ) → given l a e ≡ false → Apart l r a e
-  unfolding flat apartFrom
-  left-missing a e f =
-      let n = neither (starts (arrayAt (l .tables .arrays) a)) (written (l .updates) a e) f in
-      record {
-        S = Bool;
-        meaning = flat;
-        respects = λ o s x y. refl;
-        one = apartFrom (not v);
-        other = λ b d. true;
-        shared = λ b d g. rw g;
-        apart = λ g. other-one v (sym g ∙ unwritten-after flat (l .updates) (apartFrom (not v)) a e (n .1) ∙ rw (n .0));
-      }
-    where
-      v : Bool
-      v = after flat (r .updates) (λ b d. true) a e
+  -- what updates leave from contents that are true everywhere
+  held : List Update → ℕ → ℕ → Bool
+  held us a e = after flat us (λ b d. true) a e
 
-  right-missing : (a e : ℕ) → starts (arrayAt (l .tables .arrays) a) ≡ false → written (r .updates) a e ≡ false → Apart l r a e
-  unfolding flat apartFrom
-  right-missing a e s w =
-      record {
-        S = Bool;
-        meaning = flat;
-        respects = λ o s x y. refl;
-        one = λ b d. true;
-        other = apartFrom (not v);
-        shared = λ b d g. rw g;
-        apart = λ g. other-one v (g ∙ unwritten-after flat (r .updates) (apartFrom (not v)) a e w ∙ rw s);
-      }
-    where
-      v : Bool
-      v = after flat (l .updates) (λ b d. true) a e
+  -- one side leaves the element as it was: let that be another value than the other side's
+  other-value : (us vs : List Update) (a e : ℕ) → starts (arrayAt (l .tables .arrays) a) ≡ false → written us a e ≡ false
+      → after flat us (apartFrom (not (held vs a e))) a e ≡ held vs a e → ⊥
+  unfolding apartFrom
+  other-value us vs a e s w g = other-one (held vs a e) (sym g ∙ unwritten-after flat us (apartFrom (not (held vs a e))) a e w ∙ rw s)
+
+  module _ (a e : ℕ) (s : starts (arrayAt (l .tables .arrays) a) ≡ false) where
+    left-missing : written (l .updates) a e ≡ false → Apart l r a e
+    unfolding flat held apartFrom
+    left-missing w = record {
+      S = Bool;
+      meaning = flat;
+      respects = λ o s x y. refl;
+      one = apartFrom (not (held (r .updates) a e));
+      other = λ b d. true;
+      shared = λ b d g. rw g;
+      apart = λ g. other-value (l .updates) (r .updates) a e s w g;
+    }
+
+    right-missing : written (r .updates) a e ≡ false → Apart l r a e
+    unfolding flat held apartFrom
+    right-missing w = record {
+      S = Bool;
+      meaning = flat;
+      respects = λ o s x y. refl;
+      one = λ b d. true;
+      other = apartFrom (not (held (l .updates) a e));
+      shared = λ b d g. rw g;
+      apart = λ g. other-value (r .updates) (l .updates) a e s w (sym g);
+    }
 
   terms-differ : (a e : ℕ) → alike (swapping l) (after free (l .updates) cell a e) (after free (r .updates) cell a e) ≡ false → Apart l r a e
   terms-differ a e f = record {
@@ -161,15 +157,16 @@ module _ (mask : ℕ) (l r : Listed) where
   apart-false : Sound l → Sound r → Passed mask l r → (a e : ℕ) → agreeAt l r a e ≡ false → Apart l r a e
   apart-false p q y a e f = go (given l a e) refl (given r a e) refl f
     where
-      missing : given r a e ≡ false → Apart l r a e
-      missing g =
-          let n = neither (starts (arrayAt (r .tables .arrays) a)) (written (r .updates) a e) g in
-          right-missing a e (same-start p q y a ∙ n .0) (n .1)
+      on-left : given l a e ≡ false → Apart l r a e
+      on-left g = let n = or-split (starts (arrayAt (l .tables .arrays) a)) (written (l .updates) a e) g in left-missing a e (n .0) (n .1)
+
+      on-right : given r a e ≡ false → Apart l r a e
+      on-right g = let n = or-split (starts (arrayAt (r .tables .arrays) a)) (written (r .updates) a e) g in right-missing a e (same-start p q y a ∙ n .0) (n .1)
 
       go : (b : Bool) → given l a e ≡ b → (d : Bool) → given r a e ≡ d
           → (b && (d && alike (swapping l) (after free (l .updates) cell a e) (after free (r .updates) cell a e))) ≡ false → Apart l r a e
-      go false g d h i = left-missing a e g
-      go true g false h i = missing h
+      go false g d h i = on-left g
+      go true g false h i = on-right h
       go true g true h i = terms-differ a e i
 
   not-apart : (a e : ℕ) → Agree l r a e → Apart l r a e → ⊥

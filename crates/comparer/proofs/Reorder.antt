@@ -18,7 +18,7 @@ use Rattle.unroller.specs.Run.{readable, readables}
 use Rattle.unroller.specs.Allowed.{readAll}
 use Rattle.comparer.specs.Meaning.{Meaning, Content, valueOf, valuesOf, updated, after, free, values}
 use Rattle.comparer.specs.Order.{touches, conflict}
-use Rattle.comparer.proofs.Alike.{written-snoc}
+use Rattle.comparer.proofs.Alike.{or-split, written-snoc}
 
 pub data Pick (u : Update) : List Update → List Update → Type 0 where
   here : {us : List Update} → Pick u (u ∷ us) us
@@ -27,10 +27,6 @@ pub data Pick (u : Update) : List Update → List Update → Type 0 where
 pub data Reordered : List Update → List Update → Type 0 where
   none : Reordered [] []
   next : {u : Update} {us rest new : List Update} → Pick u us rest → Reordered rest new → Reordered us (u ∷ new)
-
-or-split : (a b : Bool) → (a || b) ≡ false → (a ≡ false) × (b ≡ false)
-or-split true b e = absurd (true≢false e)
-or-split false b e = (refl, e)
 
 -- what two updates without a conflict leave alone
 pub record Quiet (u v : Update) : Type 0 where
