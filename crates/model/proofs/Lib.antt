@@ -1,5 +1,5 @@
 pub mod Abs
 pub mod Up
 pub mod Operators
-mod Signs
+pub mod Signs
 mod Zeros

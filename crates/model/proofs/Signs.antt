@@ -1,58 +1,85 @@
--- A number of 16 signed bits, read back from its bits, and its distance from 0.
+-- A signed number of any width, read back from its bits, by its sign.
 use mathlib.Core.Path.{_≡_, refl, sym, ap, _∙_}
-use Prim.Native.Nat.{ℕ, suc, _+_, _-_, _<_}
+use Prim.Native.Nat.{ℕ, suc, _+_, _-_, _^_, _≤_, _<_}
 use native.Mathlib.Omega.{arith}
 use mathlib.Core.Bool.{true, false, false≢true}
-use lib.Dec.{T}
-use lib.IntN.{ℤ, pos, negsuc, natAbs, _-ℤ_}
+use lib.Dec.{T, ltb}
+use lib.IntN.{ℤ, pos, negsuc, natAbs}
 use lib.Signed.{ltZ, nonNeg}
 use borrow.Author.Tests.{ltb-true}
-use mir.Syntax.{w16, w64}
-use mir.Val.{toZ, ofZ, SFits, Fits}
-use mir.Facts.{toZ-ofZ}
-use Rattle.model.proofs.Abs.{sub-pos}
+use mir.Syntax.{Width, w8, w16, w32, w64, w128}
+use mir.Val.{SFits, Fits, bits, hbits, toZ, ofZ}
+use mir.Facts.{toZ-ofZ, toZ-pos, fits-natAbs}
 
-module _ (v : ℤ) (f : SFits w16 v) where
+pub halves : (w : Width) → 2 ^ bits w ≡ 2 ^ hbits w + 2 ^ hbits w
+halves w8 = refl
+halves w16 = refl
+halves w32 = refl
+halves w64 = refl
+halves w128 = refl
+
+module _ (w : Width) (v : ℤ) (f : SFits w v) where
   abbrev back : ℤ
-  back = toZ w16 (ofZ w16 v)
+  back = toZ w (ofZ w v)
 
   same : back ≡ v
-  same = toZ-ofZ {w = w16} {z = v} f
+  same = toZ-ofZ {w = w} {z = v} f
 
-  pub sign-pos : ltZ back (pos 0) ≡ false → T (nonNeg back) × Fits w64 (natAbs back)
-  sign-pos e = rw same (go v f (rw same at e))
+  pub bits-back : (b : ℕ) → b ≡ ofZ w back → toZ w b ≡ v
+  bits-back b e = ap (toZ w) (e ∙ ap (ofZ w) same) ∙ same
+
+  pub size-back : natAbs back ≡ natAbs v
+  size-back = ap natAbs same
+
+  -- not below 0: its size is its bits
+  pub plus-cast : (to : Width) → T (ltb (hbits w) (bits to)) → ltZ back (pos 0) ≡ false → T (nonNeg back) × Fits to (natAbs back)
+  plus-cast to t e = rw same (go v (rw same at e), fits-natAbs {w = w} {w′ = to} {z = v} t f)
     where
-      go : (v : ℤ) → SFits w16 v → ltZ v (pos 0) ≡ false → T (nonNeg v) × Fits w64 (natAbs v)
-      go (pos n) f e = (tt, record { fits = let h = f .sfits in omega arith })
-      go (negsuc n) f e = absurd (false≢true (sym e))
+      go : (v : ℤ) → ltZ v (pos 0) ≡ false → T (nonNeg v)
+      go (pos n) e = tt
+      go (negsuc n) e = absurd (false≢true (sym e))
 
-  pub pos-size : natAbs back ≡ natAbs v
-  pos-size = ap natAbs same
-
-  abbrev away : ℤ
-  away = negsuc 0 -ℤ back
-
-  -- the distance of a number below 0 from −1
-  away-is : ltZ back (pos 0) ≡ true → (n : ℕ) × (v ≡ negsuc n) × (away ≡ pos n) × (n < 32768)
-  away-is e = go v f refl
+  pub plus-bits : ltZ back (pos 0) ≡ false → natAbs back ≡ ofZ w v
+  plus-bits e = size-back ∙ go v (rw same at e)
     where
-      go : (z : ℤ) → SFits w16 z → v ≡ z → (n : ℕ) × (v ≡ negsuc n) × (away ≡ pos n) × (n < 32768)
-      go (pos n) g q = absurd (let h = ltb-true n 0 (rw (same, q) at e) in omega arith)
-      go (negsuc n) g q =
-          let k : suc n - 1 ≡ n = omega arith in
-          (n, q, rw (same, q) (sub-pos (suc n) 1 (omega arith) ∙ ap pos k), (let h = g .sfits in omega arith))
+      go : (v : ℤ) → ltZ v (pos 0) ≡ false → natAbs v ≡ ofZ w v
+      go (pos n) e = refl
+      go (negsuc n) e = absurd (false≢true (sym e))
 
-  pub away-fits : ltZ back (pos 0) ≡ true → SFits w16 away
-  away-fits e = let a = away-is e in rw (a .2) (record { sfits = let h = a .3 in omega arith })
+  -- below 0: with its bits turned over it is not
+  abbrev turned : ℤ
+  turned = toZ w (2 ^ bits w - 1 - ofZ w v)
 
-  pub away-cast : ltZ back (pos 0) ≡ true → T (nonNeg (toZ w16 (ofZ w16 away))) × Fits w64 (natAbs (toZ w16 (ofZ w16 away)))
-  away-cast e = let a = away-is e in rw (toZ-ofZ {w = w16} {z = away} (away-fits e), a .2) (tt, record { fits = let h = a .3 in omega arith })
+  minus : ltZ back (pos 0) ≡ true → (n : ℕ) × (v ≡ negsuc n) × (n < 2 ^ hbits w) × (turned ≡ pos n)
+  minus e = go v f (rw same at e)
+    where
+      go : (v : ℤ) → SFits w v → ltZ v (pos 0) ≡ true → (n : ℕ) × (v ≡ negsuc n) × (n < 2 ^ hbits w) × (toZ w (2 ^ bits w - 1 - ofZ w v) ≡ pos n)
+      go (pos n) f e = absurd (let h = ltb-true n 0 e in omega arith)
+      go (negsuc n) f e =
+          let h : n < 2 ^ hbits w = f .sfits in
+          let b = halves w in
+          let q : 2 ^ bits w - 1 - (2 ^ bits w - suc n) ≡ n = omega arith in
+          (n, refl, h, ap (toZ w) q ∙ toZ-pos w h)
 
-  pub away-small : ltZ back (pos 0) ≡ true → natAbs (toZ w16 (ofZ w16 away)) < 32768
-  away-small e = let a = away-is e in rw (toZ-ofZ {w = w16} {z = away} (away-fits e), a .2) (a .3)
+  pub minus-small : ltZ back (pos 0) ≡ true → natAbs turned < 2 ^ hbits w
+  minus-small e = let a = minus e in rw (a .3) (a .2)
 
-  pub away-size : ltZ back (pos 0) ≡ true → 1 + natAbs (toZ w16 (ofZ w16 away)) ≡ natAbs v
-  away-size e =
-      let a = away-is e in
+  pub minus-most : ltZ back (pos 0) ≡ true → natAbs turned ≤ 2 ^ bits w - 1
+  minus-most e = let h = minus-small e in let b = halves w in omega arith
+
+  pub minus-cast : (to : Width) → T (ltb (hbits w) (bits to)) → ltZ back (pos 0) ≡ true → T (nonNeg turned) × Fits to (natAbs turned)
+  minus-cast to t e =
+      let a = minus e in
+      rw (a .3) (tt, fits-natAbs {w = w} {w′ = to} {z = pos (a .0)} t (record { sfits = a .2 }))
+
+  pub minus-bits : ltZ back (pos 0) ≡ true → 2 ^ bits w - 1 - natAbs turned ≡ ofZ w v
+  minus-bits e =
+      let a = minus e in
+      let q : 2 ^ bits w - 1 - (a .0) ≡ 2 ^ bits w - suc (a .0) = omega arith in
+      ap (λ (z : ℤ). 2 ^ bits w - 1 - natAbs z) (a .3) ∙ q ∙ ap (ofZ w) (sym (a .1))
+
+  pub minus-size : ltZ back (pos 0) ≡ true → 1 + natAbs turned ≡ natAbs v
+  minus-size e =
+      let a = minus e in
       let k : 1 + (a .0) ≡ suc (a .0) = omega arith in
-      rw (toZ-ofZ {w = w16} {z = away} (away-fits e), a .2) (k ∙ ap natAbs (sym (a .1)))
+      ap (λ (z : ℤ). 1 + natAbs z) (a .3) ∙ k ∙ ap natAbs (sym (a .1))

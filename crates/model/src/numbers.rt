@@ -18,9 +18,5 @@ pub fn least(n: usize, m: usize) -> usize
 pub fn size(v: i16) -> usize
     ensures { λ r. ⌜ r ≡ natAbs v ⌝ }
 {
-    if v < 0 {
-        1 + (-1 - v) as usize
-    } else {
-        v as usize
-    }
+    if v < 0 { 1 + (!v) as usize } else { v as usize }
 }

@@ -4,59 +4,14 @@ use Prim.Native.Nat.{ℕ, zero, suc, _+_, _-_, _*_, _/_, _%_, _^_, _≤_, _<_}
 use native.Mathlib.Nat.{div-one, zero-div, div-eq-of-lt}
 use native.Mathlib.Omega.{arith}
 use mathlib.Core.List.{List}
-use mathlib.Core.Bool.{true, false, false≢true, true≢false}
 use lib.ListN.{getD}
-use lib.Dec.{T, leb·zero}
-use lib.Signed.{leZ, nonNeg}
-use lib.IntN.{ℤ, pos, negsuc, natAbs, _+ℤ_, _*ℤ_, +ℤ-idr, zero-*ℤ}
+use lib.IntN.{ℤ, pos, _+ℤ_, _*ℤ_, +ℤ-idr, zero-*ℤ}
 use lib.Pow.{shr-shr}
 use mir.Syntax.{w8}
-use mir.Val.{SFits, Fits, toZ, ofZ}
-use mir.Facts.{toZ-ofZ, toZ-pos}
+use mir.Val.{toZ}
 use Rattle.reader.specs.Entries.{bytesOf}
 use Rattle.reader.proofs.Numbers.{by-order}
 use Rattle.unroller.specs.Forms.{formSum, Packs}
-
--- the bits of a signed byte, by its sign
-module _ (c : ℤ) (f : SFits w8 c) where
-  abbrev back : ℤ
-  back = toZ w8 (ofZ w8 c)
-
-  same : back ≡ c
-  same = toZ-ofZ {w = w8} {z = c} f
-
-  pub plus-cast : leZ (pos 0) back ≡ true → T (nonNeg back) × Fits w8 (natAbs back)
-  plus-cast e = rw same (go c f (rw same at e))
-    where
-      go : (c : ℤ) → SFits w8 c → leZ (pos 0) c ≡ true → T (nonNeg c) × Fits w8 (natAbs c)
-      go (pos n) f e = (tt, record { fits = let h = f .sfits in omega arith })
-      go (negsuc n) f e = absurd (false≢true e)
-
-  pub plus-is : leZ (pos 0) back ≡ true → natAbs back ≡ ofZ w8 c
-  plus-is e = ap natAbs same ∙ go c (rw same at e)
-    where
-      go : (c : ℤ) → leZ (pos 0) c ≡ true → natAbs c ≡ ofZ w8 c
-      go (pos n) e = refl
-      go (negsuc n) e = absurd (false≢true e)
-
-  minus : leZ (pos 0) back ≡ false → (n : ℕ) × (ofZ w8 c ≡ 255 - n) × (n < 128) × (toZ w8 (255 - ofZ w8 c) ≡ pos n)
-  minus e = go c f (rw same at e)
-    where
-      go : (c : ℤ) → SFits w8 c → leZ (pos 0) c ≡ false → (n : ℕ) × (ofZ w8 c ≡ 255 - n) × (n < 128) × (toZ w8 (255 - ofZ w8 c) ≡ pos n)
-      go (pos n) f e = absurd (true≢false (sym (leb·zero n) ∙ e))
-      go (negsuc n) f e = let h : n < 128 = f .sfits in let q : 255 - (256 - suc n) ≡ n = omega arith in (n, omega arith, h, ap (toZ w8) q ∙ toZ-pos w8 h)
-
-  pub minus-cast : leZ (pos 0) back ≡ false → T (nonNeg (toZ w8 (255 - ofZ w8 c))) × Fits w8 (natAbs (toZ w8 (255 - ofZ w8 c)))
-  minus-cast e = let a = minus e in rw (a .3) (tt, record { fits = let h = a .2 in omega arith })
-
-  pub minus-most : leZ (pos 0) back ≡ false → natAbs (toZ w8 (255 - ofZ w8 c)) ≤ 255
-  minus-most e = let a = minus e in rw (a .3) (let h = a .2 in omega arith)
-
-  pub minus-is : leZ (pos 0) back ≡ false → 255 - natAbs (toZ w8 (255 - ofZ w8 c)) ≡ ofZ w8 c
-  minus-is e = let a = minus e in rw (a .3) (let h = a .1 in omega arith)
-
-  pub byte-back : (b : ℕ) → b ≡ ofZ w8 back → toZ w8 b ≡ c
-  byte-back b e = ap (toZ w8) (e ∙ ap (ofZ w8) same) ∙ same
 
 -- products with 0 add nothing
 pub sum-still : (z : ℤ) (cs is : List ℤ) (m n : ℕ) → ((j : ℕ) → m ≤ j → j < m + n → getD cs j (pos 0) ≡ pos 0) → formSum z cs is (m + n) ≡ formSum z cs is m

@@ -28,7 +28,7 @@ fn wide(x: i16) -> i64
 fn byte_of(c: i8) -> u8
     ensures { λ r. ⌜ r ≡ ofZ w8 c ⌝ }
 {
-    if c >= 0 { c as u8 } else { 255 - (!c) as u8 }
+    if c < 0 { 255 - (!c) as u8 } else { c as u8 }
 }
 
 fn bits(c: i8) -> usize

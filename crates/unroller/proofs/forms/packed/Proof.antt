@@ -1,6 +1,8 @@
 -- `packed` meets its contract. The four numbers of the higher half are read first.
 use borrow.Author.Needs.{needs, sfits-of}
-use Rattle.unroller.proofs.Sums.{packs-eight, byte-back}
+use mir.Syntax.{w8}
+use Rattle.model.proofs.Signs.{bits-back}
+use Rattle.unroller.proofs.Sums.{packs-eight}
 use Rattle.unroller.proofs.forms.packed.Statement.{statement}
 use Rattle.unroller.proofs.forms.packed.Tie as tie
 
@@ -95,7 +97,7 @@ add-result-4 : tie.Need-add-result-4
 add-result-4 c = search needs
 
 returns : tie.Need-returns
-returns c = packs-eight (c .before .before .before .before .before .before .before .before .before .before .before .before .before .before .before .before .args .t1) _ _ _ _ _ _ _ _ (c .before .before .before .before .before .before .bits5 .ensures .1) (c .before .before .before .before .bits6 .ensures .1) (c .before .before .bits7 .ensures .1) (c .bits8 .ensures .1) (c .before .before .before .before .before .before .before .before .before .before .before .before .before .before .bits .ensures .1) (c .before .before .before .before .before .before .before .before .before .before .before .before .bits2 .ensures .1) (c .before .before .before .before .before .before .before .before .before .before .bits3 .ensures .1) (c .before .before .before .before .before .before .before .before .bits4 .ensures .1) (byte-back _ (sfits-of (c .before .before .before .before .before .before .before .bits-arg5 .given)) _ (c .before .before .before .before .before .before .bits5 .ensures .0)) (byte-back _ (sfits-of (c .before .before .before .before .before .bits-arg6 .given)) _ (c .before .before .before .before .bits6 .ensures .0)) (byte-back _ (sfits-of (c .before .before .before .bits-arg7 .given)) _ (c .before .before .bits7 .ensures .0)) (byte-back _ (sfits-of (c .before .bits-arg8 .given)) _ (c .bits8 .ensures .0)) (byte-back _ (sfits-of (c .before .before .before .before .before .before .before .before .before .before .before .before .before .before .before .bits-arg .given)) _ (c .before .before .before .before .before .before .before .before .before .before .before .before .before .before .bits .ensures .0)) (byte-back _ (sfits-of (c .before .before .before .before .before .before .before .before .before .before .before .before .before .bits-arg2 .given)) _ (c .before .before .before .before .before .before .before .before .before .before .before .before .bits2 .ensures .0)) (byte-back _ (sfits-of (c .before .before .before .before .before .before .before .before .before .before .before .bits-arg3 .given)) _ (c .before .before .before .before .before .before .before .before .before .before .bits3 .ensures .0)) (byte-back _ (sfits-of (c .before .before .before .before .before .before .before .before .before .bits-arg4 .given)) _ (c .before .before .before .before .before .before .before .before .bits4 .ensures .0))
+returns c = packs-eight (c .before .before .before .before .before .before .before .before .before .before .before .before .before .before .before .before .args .t1) _ _ _ _ _ _ _ _ (c .before .before .before .before .before .before .bits5 .ensures .1) (c .before .before .before .before .bits6 .ensures .1) (c .before .before .bits7 .ensures .1) (c .bits8 .ensures .1) (c .before .before .before .before .before .before .before .before .before .before .before .before .before .before .bits .ensures .1) (c .before .before .before .before .before .before .before .before .before .before .before .before .bits2 .ensures .1) (c .before .before .before .before .before .before .before .before .before .before .bits3 .ensures .1) (c .before .before .before .before .before .before .before .before .bits4 .ensures .1) (bits-back w8 _ (sfits-of (c .before .before .before .before .before .before .before .bits-arg5 .given)) _ (c .before .before .before .before .before .before .bits5 .ensures .0)) (bits-back w8 _ (sfits-of (c .before .before .before .before .before .bits-arg6 .given)) _ (c .before .before .before .before .bits6 .ensures .0)) (bits-back w8 _ (sfits-of (c .before .before .before .bits-arg7 .given)) _ (c .before .before .bits7 .ensures .0)) (bits-back w8 _ (sfits-of (c .before .bits-arg8 .given)) _ (c .bits8 .ensures .0)) (bits-back w8 _ (sfits-of (c .before .before .before .before .before .before .before .before .before .before .before .before .before .before .before .bits-arg .given)) _ (c .before .before .before .before .before .before .before .before .before .before .before .before .before .before .bits .ensures .0)) (bits-back w8 _ (sfits-of (c .before .before .before .before .before .before .before .before .before .before .before .before .before .bits-arg2 .given)) _ (c .before .before .before .before .before .before .before .before .before .before .before .before .bits2 .ensures .0)) (bits-back w8 _ (sfits-of (c .before .before .before .before .before .before .before .before .before .before .before .bits-arg3 .given)) _ (c .before .before .before .before .before .before .before .before .before .before .bits3 .ensures .0)) (bits-back w8 _ (sfits-of (c .before .before .before .before .before .before .before .before .before .bits-arg4 .given)) _ (c .before .before .before .before .before .before .before .before .bits4 .ensures .0))
 
 pub packed-spec : {M : Type 1} → statement M
 packed-spec = tie.close (tie.spec array-copy-out-bits bits-requires array-copy-out-bits-2 bits-requires-2 array-copy-out-bits-3 bits-requires-3 array-copy-out-bits-4 bits-requires-4 mul-high add-high mul-high-2 add-high-2 mul-high-3 add-high-3 array-copy-out-bits-5 bits-requires-5 array-copy-out-bits-6 bits-requires-6 array-copy-out-bits-7 bits-requires-7 array-copy-out-bits-8 bits-requires-8 mul-result add-result mul-result-2 add-result-2 mul-result-3 add-result-3 mul-result-4 add-result-4 returns)
