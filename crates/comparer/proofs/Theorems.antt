@@ -19,7 +19,7 @@ use Rattle.unroller.proofs.Encode.{decode-layout}
 use Rattle.unroller.proofs.Inverse.{layout-decode, layout-injective as injective}
 use Rattle.unroller.proofs.Laws.{accepted-sound, accepted-complete, layout-length, decoded-fit, layout-same}
 use Rattle.unroller.proofs.Accepted.{unrolled-allowed as allowed-run}
-use Rattle.unroller.proofs.Fits.{indices-fit as index-values-fit, forms-bounded, forms-fit as forms-in-32}
+use Rattle.unroller.proofs.Fits.{indices-fit as index-values-fit, product-bounded, sums-bounded, forms-bounded, forms-wrapped, forms-fit as forms-in-32}
 use Rattle.unroller.proofs.Question21.{run-question21, unrolled-question21}
 use Rattle.unroller.proofs.Runs.{unrolled-last, unrolled-reads}
 use Rattle.comparer.specs.Meaning.{Meaning, Content, after}
@@ -27,7 +27,7 @@ use Rattle.comparer.specs.Match.{listsReply}
 use Rattle.comparer.specs.Entry.{decodedReply, enough, entryReply, wordsReply, sideReply, programsReply}
 use Rattle.comparer.specs.Told.{Shared, Told}
 use Rattle.comparer.specs.Order.{reorder}
-use Rattle.comparer.specs.Claims.{Demand2Lists, ToldOf, Demand2Words, Demand2Programs, Demand3, LayoutRead, LayoutOnly, LayoutInjective, LayoutFits, Question26, UnrolledAllowed, IndicesFit, FormsSmall, FormsFit, Question21, RepliesWithout21, FreeStandsForAll}
+use Rattle.comparer.specs.Claims.{Demand2Lists, ToldOf, Demand2Words, Demand2Programs, Demand3, LayoutRead, LayoutOnly, LayoutInjective, LayoutFits, Question26, UnrolledAllowed, IndicesFit, FormsSmall, FormsFit, ProductsSmall, SumsSmall, SumsExact, Question21, RepliesWithout21, FreeStandsForAll}
 use Rattle.comparer.proofs.Values.{meaning-of-value}
 use Rattle.comparer.proofs.Alike.{after-alike}
 use Rattle.comparer.proofs.Demand2.{Sound, demand2}
@@ -65,6 +65,15 @@ forms-small f is n h = let b = forms-bounded _ f is n h in omega arith
 
 pub forms-fit : FormsFit
 forms-fit = forms-in-32
+
+pub products-small : ProductsSmall
+products-small c i h k = let b = product-bounded _ _ c i h k in omega arith
+
+pub sums-small : SumsSmall
+sums-small z cs is k f h j l = let b = sums-bounded _ _ _ z cs is k f h j in omega arith
+
+pub sums-exact : SumsExact
+sums-exact = forms-wrapped
 
 pub question21 : Question21
 question21 = run-question21

@@ -7,7 +7,7 @@ use mathlib.Core.List.{List, map}
 use mathlib.Core.Bool.{Bool, true, false}
 use mathlib.Core.Option.{some}
 use lib.ListN.{length, getD, take}
-use lib.IntN.{ℤ, natAbs}
+use lib.IntN.{ℤ, _*ℤ_, natAbs}
 use Rattle.model.specs.Test.{every}
 use Rattle.model.specs.Update.{Tree, Listed, written}
 use Rattle.model.specs.Update.Tree.{cell}
@@ -21,6 +21,7 @@ use Rattle.unroller.specs.Allowed.{fits32, allowed}
 use Rattle.unroller.specs.Layout.{layout}
 use Rattle.unroller.specs.Decode.{decode, accepted}
 use Rattle.unroller.specs.Unroll.{unrolled}
+use Rattle.unroller.specs.Forms.{formSum, wrappedSum}
 use Rattle.unroller.specs.Fits.{narrow}
 use Rattle.unroller.specs.Asking as Asking
 use Rattle.unroller.specs.Executed.{Origin}
@@ -118,6 +119,22 @@ FormsSmall = (f : Form) (is : List ℤ) → narrow f ≡ true → every (signed 
 -- and so in 32 signed bits.
 abbrev pub FormsFit : Type 0
 FormsFit = (f : Form) (is : List ℤ) → narrow f ≡ true → every fits16 is ≡ true → fits32 (valueAt f is) ≡ true
+
+-- For every constant, all coefficients and all index values, whatever a run meets: no product is larger than that bound in size,
+abbrev pub ProductsSmall : Type 0
+ProductsSmall = (c i : ℤ) → signed 127 c ≡ true → signed 32767 i ≡ true → natAbs (c *ℤ i) ≤ 33587200
+
+-- and no partial sum, in the order in which the code adds them (`formSum`): the constant, then a product for each loop, outermost first;
+abbrev pub SumsSmall : Type 0
+SumsSmall =
+    (z : ℤ) (cs is : List ℤ) (k : ℕ) → signed 32767 z ≡ true → every (signed 127) cs ≡ true → every (signed 32767) is ≡ true → k ≤ 8
+    → natAbs (formSum z cs is k) ≤ 33587200
+
+-- so 32 signed bits are enough: where only these are kept of each product and each sum (`wrappedSum`), eight products give the form's
+-- value.
+abbrev pub SumsExact : Type 0
+SumsExact =
+    (f : Form) (is : List ℤ) → narrow f ≡ true → every fits16 is ≡ true → wrappedSum (f .constant) (f .coefficients) is 8 ≡ valueAt f is
 
 -- Question 21 is retired. For every file that was read, the run that asks it as each form is worked out (`Asking`) has the outcome of
 -- the run that does not,

@@ -1,23 +1,28 @@
 -- How large index values and forms get.
-use Prim.Native.Nat.{ℕ, zero, suc, _+_, _-_, _*_, _≤_, _<_}
+use Prim.Native.Nat.{ℕ, zero, suc, _+_, _-_, _*_, _^_, _≤_, _<_}
+use native.Mathlib.Nat.{mod-eq-of-lt}
 use native.Mathlib.Omega.{arith}
-use mathlib.Core.Path.{_≡_, refl, sym, subst}
+use mathlib.Core.Path.{_≡_, refl, sym, ap, ap₂, _∙_, subst}
 use mathlib.Core.List.{List, [], _∷_}
 use mathlib.Core.Bool.{Bool, true, false, _&&_, false≢true}
-use lib.ListN.{length}
+use lib.ListN.{length, getD}
 use lib.Dec.{leb, ltb}
 use lib.IntN.{ℤ, pos, negsuc, _+ℤ_, _*ℤ_, natAbs, subℕ}
 use lib.Signed.{leZ}
 use borrow.Author.Tests.{leb-true, le-leb, ltb-true, ltb-false}
-use mir.Syntax.{w8, w16}
-use mir.Val.{toZ, sel}
+use mir.Syntax.{Width, w8, w16}
+use mir.Val.{SFits, bits, hbits, toZ, sel}
+use mir.Facts.{toZ-pos, toZ-neg}
 use Rattle.model.specs.Test.{every}
-use Rattle.model.proofs.Abs.{sub-pos, sub-neg, abs-add, abs-mul-le, mag-abs}
+use Rattle.model.proofs.Abs.{sub-pos, sub-neg, abs-add, abs-mul-le, mag-abs, sfits-abs}
+use Rattle.model.proofs.Signs.{halves}
 use Rattle.reader.specs.Syntax.{Form}
-use Rattle.unroller.specs.Run.{products, valueAt, signed, fits16, indices}
+use Rattle.unroller.specs.Run.{valueAt, signed, fits16, indices}
 use Rattle.unroller.specs.Allowed.{fits32}
+use Rattle.unroller.specs.Forms.{formSum, wrapped, wrappedSum}
 use Rattle.unroller.specs.Fits.{fits8, narrow}
 use Rattle.unroller.proofs.Parts.{both, join, signed-mag, mag-signed}
+use Rattle.unroller.proofs.Sums.{sum-value}
 
 -- ---- index values
 le-trans : (a b c : ℤ) → leZ a b ≡ true → leZ b c ≡ true → leZ a c ≡ true
@@ -80,26 +85,74 @@ signed-abs m (negsuc n) e = let h = signed-mag m (negsuc n) e in omega arith
 pub abs-signed : (m : ℕ) (z : ℤ) → natAbs z ≤ m → signed m z ≡ true
 abs-signed m z h = mag-signed m z (let k = mag-abs z in omega arith)
 
--- n products of coefficients up to c and index values up to m
-products-bounded : (n c m : ℕ) (cs is : List ℤ) → length cs ≤ n → every (signed c) cs ≡ true → every (signed m) is ≡ true → natAbs (products cs is) ≤ n * (suc c * suc m)
-products-bounded n c m [] is l h k = omega arith
-products-bounded n c m (x ∷ cs) [] l h k = omega arith
-products-bounded zero c m (x ∷ cs) (i ∷ is) l h k = absurd (omega arith)
-products-bounded (suc n) c m (x ∷ cs) (i ∷ is) l h k =
-    let p = both (signed c x) (every (signed c) cs) h in
-    let q = both (signed m i) (every (signed m) is) k in
-    omega (arith, abs-add (x *ℤ i) (products cs is), abs-mul-le x i (suc c) (suc m) (signed-abs c x (p .0)) (signed-abs m i (q .0)), products-bounded n c m cs is (omega arith) (p .1) (q .1))
+pub product-bounded : (c m : ℕ) (x i : ℤ) → signed c x ≡ true → signed m i ≡ true → natAbs (x *ℤ i) ≤ suc c * suc m
+product-bounded c m x i h k = abs-mul-le x i (suc c) (suc m) (signed-abs c x h) (signed-abs m i k)
+
+-- a number of a list, or 0 behind its end
+signed-at : (m : ℕ) (l : List ℤ) (k : ℕ) → every (signed m) l ≡ true → signed m (getD l k (pos 0)) ≡ true
+signed-at m [] k h = abs-signed m (pos 0) (omega arith)
+signed-at m (x ∷ l) zero h = both (signed m x) (every (signed m) l) h .0
+signed-at m (x ∷ l) (suc k) h = signed-at m l k (both (signed m x) (every (signed m) l) h .1)
+
+-- a constant up to b, and k products of coefficients up to c and index values up to m
+pub sums-bounded : (b c m : ℕ) (z : ℤ) (cs is : List ℤ) (k : ℕ) → signed b z ≡ true → every (signed c) cs ≡ true → every (signed m) is ≡ true → natAbs (formSum z cs is k) ≤ suc b + k * (suc c * suc m)
+unfolding formSum
+sums-bounded b c m z cs is zero f h j = let s = signed-abs b z f in omega arith
+sums-bounded b c m z cs is (suc k) f h j =
+    let x = getD cs k (pos 0) in
+    let i = getD is k (pos 0) in
+    omega (arith, abs-add (formSum z cs is k) (x *ℤ i), product-bounded c m x i (signed-at c cs k h) (signed-at m is k j), sums-bounded b c m z cs is k f h j)
+
+-- the parts of a form that a file can hold
+narrow-constant : (f : Form) → narrow f ≡ true → fits16 (f .constant) ≡ true
+narrow-constant f n = both (fits16 (f .constant)) (leb (length (f .coefficients)) 8 && every fits8 (f .coefficients)) n .0
+
+narrow-few : (f : Form) → narrow f ≡ true → length (f .coefficients) ≤ 8
+narrow-few f n = leb-true (length (f .coefficients)) 8 (both (leb (length (f .coefficients)) 8) (every fits8 (f .coefficients)) (both (fits16 (f .constant)) _ n .1) .0)
+
+narrow-coefficients : (f : Form) → narrow f ≡ true → every fits8 (f .coefficients) ≡ true
+narrow-coefficients f n = both (leb (length (f .coefficients)) 8) (every fits8 (f .coefficients)) (both (fits16 (f .constant)) _ n .1) .1
+
+forms-exact : (f : Form) (is : List ℤ) → narrow f ≡ true → formSum (f .constant) (f .coefficients) is 8 ≡ valueAt f is
+forms-exact f is n = sum-value (f .constant) (f .coefficients) is 8 (narrow-few f n)
 
 pub forms-bounded : (m : ℕ) (f : Form) (is : List ℤ) → narrow f ≡ true → every (signed m) is ≡ true → natAbs (valueAt f is) ≤ 32768 + 8 * (128 * suc m)
 forms-bounded m f is n h =
-    let p = both (fits16 (f .constant)) (leb (length (f .coefficients)) 8 && every fits8 (f .coefficients)) n in
-    let q = both (leb (length (f .coefficients)) 8) (every fits8 (f .coefficients)) (p .1) in
-    let z = signed-abs _ (f .constant) (p .0) in
-    let v = products-bounded 8 _ m (f .coefficients) is (leb-true (length (f .coefficients)) 8 (q .0)) (q .1) h in
-    omega (arith, abs-add (f .constant) (products (f .coefficients) is), z, v)
+    let s = sums-bounded _ _ m (f .constant) (f .coefficients) is 8 (narrow-constant f n) (narrow-coefficients f n) h in
+    subst (λ (v : ℤ). natAbs v ≤ 32768 + 8 * (128 * suc m)) (forms-exact f is n) (omega arith)
 
 pub forms-fit : (f : Form) (is : List ℤ) → narrow f ≡ true → every fits16 is ≡ true → fits32 (valueAt f is) ≡ true
 forms-fit f is n h = abs-signed 2147483647 (valueAt f is) (let b = forms-bounded _ f is n h in omega arith)
+
+-- ---- sums of 32 bits
+-- what fits is kept
+wrapped-fits : (w : Width) (z : ℤ) → SFits w z → wrapped w z ≡ z
+unfolding wrapped
+wrapped-fits w (pos n) f =
+    let h : n < 2 ^ hbits w = f .sfits in
+    let b = halves w in
+    ap (toZ w) (mod-eq-of-lt (omega arith)) ∙ toZ-pos w h
+wrapped-fits w (negsuc n) f =
+    let h : n < 2 ^ hbits w = f .sfits in
+    let b = halves w in
+    ap (λ (k : ℕ). toZ w (2 ^ bits w - suc k)) (mod-eq-of-lt (omega arith)) ∙ toZ-neg w n h
+
+wrapped-more : (v w : Width) (s t p : ℤ) → s ≡ t → SFits v p → SFits w (t +ℤ p) → wrapped w (s +ℤ wrapped v p) ≡ t +ℤ p
+wrapped-more v w s t p e f g = ap₂ (λ (x y : ℤ). wrapped w (x +ℤ y)) e (wrapped-fits v p f) ∙ wrapped-fits w (t +ℤ p) g
+
+wrapped-sum : (z : ℤ) (cs is : List ℤ) (k : ℕ) → fits16 z ≡ true → every fits8 cs ≡ true → every fits16 is ≡ true → k ≤ 8 → wrappedSum z cs is k ≡ formSum z cs is k
+unfolding wrappedSum formSum
+wrapped-sum z cs is zero f h j l = refl
+wrapped-sum z cs is (suc k) f h j l =
+    let x = getD cs k (pos 0) in
+    let i = getD is k (pos 0) in
+    let s = sums-bounded _ _ _ z cs is (suc k) f h j in
+    let p = product-bounded _ _ x i (signed-at _ cs k h) (signed-at _ is k j) in
+    wrapped-more _ _ _ _ _ (wrapped-sum z cs is k f h j (omega arith)) (sfits-abs (x *ℤ i) (omega arith)) (sfits-abs (formSum z cs is (suc k)) (omega arith))
+
+pub forms-wrapped : (f : Form) (is : List ℤ) → narrow f ≡ true → every fits16 is ≡ true → wrappedSum (f .constant) (f .coefficients) is 8 ≡ valueAt f is
+forms-wrapped f is n h =
+    wrapped-sum (f .constant) (f .coefficients) is 8 (narrow-constant f n) (narrow-coefficients f n) h (omega arith) ∙ forms-exact f is n
 
 -- ---- what bytes can say
 -- of a number with h values below 0, whatever is read as it

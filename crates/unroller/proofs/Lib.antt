@@ -3,10 +3,10 @@ pub mod Encode
 pub mod Inverse
 pub mod Laws
 pub mod Runs
+mod Sums
 pub mod Fits
 pub mod Accepted
 pub mod Question21
-mod Sums
 pub mod Values
 pub mod Stands
 mod Indices

@@ -3,30 +3,49 @@ use mathlib.Core.Path.{_≡_, refl, sym, ap, ap₂, _∙_}
 use Prim.Native.Nat.{ℕ, zero, suc, _+_, _-_, _*_, _/_, _%_, _^_, _≤_, _<_}
 use native.Mathlib.Nat.{div-one, zero-div, div-eq-of-lt}
 use native.Mathlib.Omega.{arith}
-use mathlib.Core.List.{List}
-use lib.ListN.{getD}
-use lib.IntN.{ℤ, pos, _+ℤ_, _*ℤ_, +ℤ-idr, zero-*ℤ}
+use mathlib.Core.List.{List, [], _∷_}
+use lib.ListN.{length, getD}
+use lib.IntN.{ℤ, pos, _+ℤ_, _*ℤ_, +ℤ-assoc, +ℤ-idr, zero-*ℤ, *ℤ-zero}
 use lib.Pow.{shr-shr}
 use mir.Syntax.{w8}
 use mir.Val.{toZ}
 use Rattle.reader.specs.Entries.{bytesOf}
 use Rattle.reader.proofs.Numbers.{by-order}
+use Rattle.unroller.specs.Run.{products}
 use Rattle.unroller.specs.Forms.{formSum, Packs}
 
--- products with 0 add nothing
-pub sum-still : (z : ℤ) (cs is : List ℤ) (m n : ℕ) → ((j : ℕ) → m ≤ j → j < m + n → getD cs j (pos 0) ≡ pos 0) → formSum z cs is (m + n) ≡ formSum z cs is m
+-- products that are 0 add nothing
+sum-still : (z : ℤ) (cs is : List ℤ) (m n : ℕ) → ((j : ℕ) → m ≤ j → j < m + n → getD cs j (pos 0) *ℤ getD is j (pos 0) ≡ pos 0) → formSum z cs is (m + n) ≡ formSum z cs is m
 unfolding formSum
 sum-still z cs is m zero h = let e : m + 0 ≡ m = omega arith in rw e
 sum-still z cs is m (suc n) h =
     let e : m + suc n ≡ suc (m + n) = omega arith in
     ap (formSum z cs is) e
-    ∙ ap (λ (x : ℤ). formSum z cs is (m + n) +ℤ (x *ℤ getD is (m + n) (pos 0))) (h (m + n) (omega arith) (omega arith))
-    ∙ ap (λ (x : ℤ). formSum z cs is (m + n) +ℤ x) (zero-*ℤ (getD is (m + n) (pos 0)))
+    ∙ ap (λ (x : ℤ). formSum z cs is (m + n) +ℤ x) (h (m + n) (omega arith) (omega arith))
     ∙ +ℤ-idr (formSum z cs is (m + n))
     ∙ sum-still z cs is m n (λ j a b. h j a (omega arith))
 
+sum-none : (z : ℤ) (cs is : List ℤ) (n : ℕ) → ((j : ℕ) → getD cs j (pos 0) *ℤ getD is j (pos 0) ≡ pos 0) → formSum z cs is n ≡ z
+unfolding formSum
+sum-none z cs is n h = let e : n ≡ 0 + n = omega arith in ap (formSum z cs is) e ∙ sum-still z cs is 0 n (λ j a b. h j)
+
+-- the first product is added to the constant
+sum-first : (z c i : ℤ) (cs is : List ℤ) (n : ℕ) → formSum z (c ∷ cs) (i ∷ is) (suc n) ≡ formSum (z +ℤ (c *ℤ i)) cs is n
+unfolding formSum
+sum-first z c i cs is zero = refl
+sum-first z c i cs is (suc n) = ap (λ (x : ℤ). x +ℤ (getD cs n (pos 0) *ℤ getD is n (pos 0))) (sum-first z c i cs is n)
+
+-- once each coefficient had its turn the sum is the form's value
+pub sum-value : (z : ℤ) (cs is : List ℤ) (n : ℕ) → length cs ≤ n → formSum z cs is n ≡ z +ℤ products cs is
+unfolding formSum
+sum-value z [] is n h = sum-none z [] is n (λ j. zero-*ℤ (getD is j (pos 0))) ∙ sym (+ℤ-idr z)
+sum-value z (c ∷ cs) [] n h = sum-none z (c ∷ cs) [] n (λ j. *ℤ-zero (getD (c ∷ cs) j (pos 0))) ∙ sym (+ℤ-idr z)
+sum-value z (c ∷ cs) (i ∷ is) zero h = absurd (omega arith)
+sum-value z (c ∷ cs) (i ∷ is) (suc n) h =
+    sum-first z c i cs is n ∙ sum-value (z +ℤ (c *ℤ i)) cs is n (omega arith) ∙ +ℤ-assoc z (c *ℤ i) (products cs is)
+
 -- a sum hangs on the numbers alone
-sum-same : (z : ℤ) (cs ds is : List ℤ) (n : ℕ) → ((k : ℕ) → k < n → getD cs k (pos 0) ≡ getD ds k (pos 0)) → formSum z cs is n ≡ formSum z ds is n
+pub sum-same : (z : ℤ) (cs ds is : List ℤ) (n : ℕ) → ((k : ℕ) → k < n → getD cs k (pos 0) ≡ getD ds k (pos 0)) → formSum z cs is n ≡ formSum z ds is n
 unfolding formSum
 sum-same z cs ds is zero h = refl
 sum-same z cs ds is (suc n) h =
@@ -75,10 +94,13 @@ module _ (w k rest : ℕ) (small : w < 2 ^ 64) (few : k ≤ 8) (e : rest ≡ w /
   unfolding Packs
   rest-none z cs is p h =
       let m : k + (8 - k) ≡ 8 = omega arith in
-      sym (sum-still z (bytesOf 8 w) is k (8 - k) zero-byte) ∙ ap (formSum z (bytesOf 8 w) is) m ∙ sum-same z (bytesOf 8 w) cs is 8 p
+      sym (sum-still z (bytesOf 8 w) is k (8 - k) zero-product) ∙ ap (formSum z (bytesOf 8 w) is) m ∙ sum-same z (bytesOf 8 w) cs is 8 p
     where
       zero-byte : (j : ℕ) → k ≤ j → j < k + (8 - k) → getD (bytesOf 8 w) j (pos 0) ≡ pos 0
       zero-byte j a b =
           let m : 8 * j ≡ 8 * k + 8 * (j - k) = omega arith in
           let q : w / 2 ^ (8 * j) ≡ 0 = ap (λ (x : ℕ). w / 2 ^ x) m ∙ sym (shr-shr w (8 * k) (8 * (j - k))) ∙ ap (λ (x : ℕ). x / 2 ^ (8 * (j - k))) (sym e ∙ h) ∙ zero-div (2 ^ (8 * (j - k))) in
           getD-bytes 8 w j (omega arith) ∙ ap (λ (x : ℕ). toZ w8 (x % 256)) q
+
+      zero-product : (j : ℕ) → k ≤ j → j < k + (8 - k) → getD (bytesOf 8 w) j (pos 0) *ℤ getD is j (pos 0) ≡ pos 0
+      zero-product j a b = ap (λ (x : ℤ). x *ℤ getD is j (pos 0)) (zero-byte j a b) ∙ zero-*ℤ (getD is j (pos 0))

@@ -1,9 +1,11 @@
 -- Forms worked out over arrays of eight numbers, as the code does.
-use Prim.Native.Nat.{ℕ, zero, suc, _≤_, _<_}
+use Prim.Native.Nat.{ℕ, zero, suc, _-_, _%_, _^_, _≤_, _<_}
 use mathlib.Core.Path.{_≡_}
 use mathlib.Core.List.{List}
 use lib.ListN.{length, getD, take}
-use lib.IntN.{ℤ, pos, _+ℤ_, _*ℤ_, natAbs}
+use lib.IntN.{ℤ, pos, negsuc, _+ℤ_, _*ℤ_, natAbs}
+use mir.Syntax.{Width, w32}
+use mir.Val.{bits, toZ}
 use Rattle.reader.specs.Field.{got}
 use Rattle.reader.specs.Syntax.{Form}
 use Rattle.reader.specs.Grammar.{form}
@@ -16,6 +18,16 @@ use Rattle.unroller.specs.declared.forms.Valued.the-variants.{Is, No}
 unfoldable pub formSum : ℤ → List ℤ → List ℤ → ℕ → ℤ
 formSum z cs is zero = z
 formSum z cs is (suc n) = formSum z cs is n +ℤ (getD cs n (pos 0) *ℤ getD is n (pos 0))
+
+-- what so many bits keep of a number, as two's complement
+unfoldable pub wrapped : Width → ℤ → ℤ
+wrapped w (pos n) = toZ w (n % 2 ^ bits w)
+wrapped w (negsuc n) = toZ w (2 ^ bits w - suc (n % 2 ^ bits w))
+
+-- the same sum, of whose products and sums 32 bits are kept
+unfoldable pub wrappedSum : ℤ → List ℤ → List ℤ → ℕ → ℤ
+wrappedSum z cs is zero = z
+wrappedSum z cs is (suc n) = wrapped w32 (wrappedSum z cs is n +ℤ wrapped w32 (getD cs n (pos 0) *ℤ getD is n (pos 0)))
 
 -- the first eight numbers of a list are the bytes of w
 unfoldable pub Packs : List ℤ → ℕ → Type 0
