@@ -1,87 +1,40 @@
--- Numbers as words, and cells by their subscripts, as the code works them out.
+-- Cells by their subscripts, as the code works them out.
 use mathlib.Core.Path.{_≡_, refl, sym, ap, _∙_, subst}
-use Prim.Native.Nat.{ℕ, zero, suc, _+_, _-_, _*_, _≤_, _<_}
+use Prim.Native.Nat.{ℕ, zero, suc, _+_, _*_, _≤_, _<_}
 use native.Mathlib.Omega.{arith}
 use native.Mathlib.Numerals.{add-one}
 use native.Mathlib.Nat.{mul-le-mul, add-mul}
 use mathlib.Core.List.{List, [], _∷_}
-use mathlib.Core.Bool.{Bool, true, false, false≢true}
+use mathlib.Core.Bool.{true, false, false≢true}
 use lib.ListN.{length, getD, drop, take, length-drop}
 use lib.Seq.{drop-cons}
-use lib.Dec.{T, ltb, leb}
-use lib.IntN.{ℤ, pos, negsuc, natAbs, _-ℤ_}
-use lib.Signed.{leZ, ltZ, nonNeg}
+use lib.IntN.{ℤ, pos, negsuc, natAbs}
+use lib.Signed.{leZ, ltZ}
 use borrow.Author.Tests.{ltb-true, lt-ltb, le-ltb, leb-true, leb-false}
-use mir.Syntax.{w32, w64}
-use mir.Val.{toZ, ofZ, SFits, Fits}
+use mir.Syntax.{w32}
+use mir.Val.{toZ, ofZ, SFits}
 use mir.Facts.{toZ-ofZ}
-use Rattle.model.proofs.Abs.{sub-pos}
 use Rattle.reader.specs.Field.{got, times}
 use Rattle.reader.specs.Grammar.{form}
 use Rattle.reader.proofs.Binds.{read-by, got-is}
 use Rattle.unroller.specs.Run.{Ran, ok, stop, _>>=_, valueAt, inExtent, cellFrom}
-use Rattle.unroller.specs.Allowed.{fits32}
 use Rattle.unroller.specs.Forms.{Values}
 use Rattle.unroller.specs.Writes.{CellIs, Below, InExtent, Subscript, CellsFrom}
 use Rattle.unroller.specs.declared.forms.Valued.{Valued}
 use Rattle.unroller.specs.declared.forms.Valued.the-variants as valued
 use Rattle.unroller.specs.declared.statement.Cell.{Cell}
 use Rattle.unroller.specs.declared.statement.Cell.the-variants as cell
-use Rattle.unroller.proofs.Parts.{both}
 use Rattle.unroller.proofs.Values.{values-none, values-some}
 
--- a signed number read back from its bits, by its sign
-module _ (v : ℤ) (f : SFits w64 v) where
+-- a subscript, read back from its bits
+module _ (v : ℤ) (f : SFits w32 v) where
   abbrev back : ℤ
-  back = toZ w64 (ofZ w64 v)
+  back = toZ w32 (ofZ w32 v)
 
   same : back ≡ v
-  same = toZ-ofZ {w = w64} {z = v} f
+  same = toZ-ofZ {w = w32} {z = v} f
 
-  pub sign-pos : ltZ back (pos 0) ≡ false → T (nonNeg back) × Fits w64 (natAbs back)
-  sign-pos e = rw same (go v f (rw same at e))
-    where
-      go : (v : ℤ) → SFits w64 v → ltZ v (pos 0) ≡ false → T (nonNeg v) × Fits w64 (natAbs v)
-      go (pos n) f e = (tt, record { fits = let h = f .sfits in omega arith })
-      go (negsuc n) f e = absurd (false≢true (sym e))
-
-  abbrev away : ℤ
-  away = negsuc 0 -ℤ back
-
-  -- the distance of a number below 0 from −1
-  away-is : ltZ back (pos 0) ≡ true → (n : ℕ) × (v ≡ negsuc n) × (away ≡ pos n) × (n < 9223372036854775808)
-  away-is e = go v f refl
-    where
-      go : (z : ℤ) → SFits w64 z → v ≡ z → (n : ℕ) × (v ≡ negsuc n) × (away ≡ pos n) × (n < 9223372036854775808)
-      go (pos n) g q = absurd (let h = ltb-true n 0 (rw (same, q) at e) in omega arith)
-      go (negsuc n) g q =
-          let k : suc n - 1 ≡ n = omega arith in
-          (n, q, rw (same, q) (sub-pos (suc n) 1 (omega arith) ∙ ap pos k), (let h = g .sfits in omega arith))
-
-  pub away-fits : ltZ back (pos 0) ≡ true → SFits w64 away
-  away-fits e = let a = away-is e in rw (a .2) (record { sfits = let h = a .3 in omega arith })
-
-  pub away-cast : ltZ back (pos 0) ≡ true → T (nonNeg (toZ w64 (ofZ w64 away))) × Fits w64 (natAbs (toZ w64 (ofZ w64 away)))
-  away-cast e = let a = away-is e in rw (toZ-ofZ {w = w64} {z = away} (away-fits e), a .2) (tt, record { fits = let h = a .3 in omega arith })
-
-  -- the word of a number of 32 signed bits
-  pub bits-neg : ltZ back (pos 0) ≡ true → (r : ℕ) → (natAbs (toZ w64 (ofZ w64 away)) < 4294967296 → r ≡ natAbs (toZ w64 (ofZ w64 away))) → fits32 v ≡ true → 4294967295 - r ≡ ofZ w32 v
-  bits-neg e r h t =
-      let a = away-is e in
-      let w : natAbs (toZ w64 (ofZ w64 away)) ≡ a .0 = ap natAbs (toZ-ofZ {w = w64} {z = away} (away-fits e) ∙ a .2) in
-      let u : fits32 (negsuc (a .0)) ≡ true = rw (a .1) at t in
-      let l = leb-true (a .0) 2147483647 (both (leb (a .0) 2147483647) true u .0) in
-      let k : r ≡ natAbs (toZ w64 (ofZ w64 away)) = h (omega arith) in
-      rw (a .1) (omega arith)
-
-  pub bits-pos : ltZ back (pos 0) ≡ false → (r : ℕ) → (natAbs back < 4294967296 → r ≡ natAbs back) → fits32 v ≡ true → r ≡ ofZ w32 v
-  bits-pos e r h t = go v (rw same at e) (rw same at h) t
-    where
-      go : (v : ℤ) → ltZ v (pos 0) ≡ false → (natAbs v < 4294967296 → r ≡ natAbs v) → fits32 v ≡ true → r ≡ ofZ w32 v
-      go (pos n) e h t = h (let l = leb-true n 2147483647 t in omega arith)
-      go (negsuc n) e h t = absurd (false≢true (sym e))
-
-  -- a subscript against its extent
+  -- against its extent
   pub extent-negative : (e next : ℕ) → ltZ back (pos 0) ≡ true → InExtent e v next (cell.No 16)
   unfolding InExtent
   extent-negative e next q p = go v (rw same at q)
@@ -91,10 +44,10 @@ module _ (v : ℤ) (f : SFits w64 v) where
       go (negsuc n) q = refl
 
   module _ (e next : ℕ) (small : e < 65536) where
-    extent : toZ w64 (ofZ w64 (pos e)) ≡ pos e
-    extent = toZ-ofZ {w = w64} {z = pos e} (record { sfits = omega arith })
+    extent : toZ w32 (ofZ w32 (pos e)) ≡ pos e
+    extent = toZ-ofZ {w = w32} {z = pos e} (record { sfits = omega arith })
 
-    pub extent-beyond : leZ (toZ w64 (ofZ w64 (pos e))) back ≡ true → InExtent e v next (cell.No 16)
+    pub extent-beyond : leZ (toZ w32 (ofZ w32 (pos e))) back ≡ true → InExtent e v next (cell.No 16)
     unfolding InExtent
     extent-beyond q p = go v (rw (extent, same) at q)
       where
@@ -102,7 +55,7 @@ module _ (v : ℤ) (f : SFits w64 v) where
         go (pos n) q = rw (le-ltb n e (leb-true e n q)) refl
         go (negsuc n) q = refl
 
-    module _ (below : leZ (toZ w64 (ofZ w64 (pos e))) back ≡ false) (positive : ltZ back (pos 0) ≡ false) where
+    module _ (below : leZ (toZ w32 (ofZ w32 (pos e))) back ≡ false) (positive : ltZ back (pos 0) ≡ false) where
       pub inside-below : natAbs back < e
       inside-below = rw same (go v (rw (extent, same) at below) (rw same at positive))
         where
@@ -125,11 +78,11 @@ module _ (s : List ℕ) (at loops : ℕ) (is : List ℤ) (e : ℕ) where
   subscript-no r k h q f next p g l i = values-none (h f next g l i) q
 
   -- the value is handed on by its bits
-  pub subscript-is : (r : Valued) (v : ℤ) (to : ℕ) (a : Cell) → SFits w64 v → Values s at loops is r → r ≡ valued.Is v to → InExtent e (toZ w64 (ofZ w64 v)) to a → Subscript s at loops is e a
+  pub subscript-is : (r : Valued) (v : ℤ) (to : ℕ) (a : Cell) → SFits w32 v → Values s at loops is r → r ≡ valued.Is v to → InExtent e (toZ w32 (ofZ w32 v)) to a → Subscript s at loops is e a
   unfolding Subscript Values InExtent
   subscript-is r v to a b h q x f next p g l i =
       let y = values-some (h f next g l i) q in
-      subst (λ (z : ℤ). CellIs (inExtent p e z) next a) (y .0) (subst (λ (n : ℕ). CellIs (inExtent p e v) n a) (y .1) (subst (λ (z : ℤ). CellIs (inExtent p e z) to a) (toZ-ofZ {w = w64} {z = v} b) (x p)))
+      subst (λ (z : ℤ). CellIs (inExtent p e z) next a) (y .0) (subst (λ (n : ℕ). CellIs (inExtent p e v) n a) (y .1) (subst (λ (z : ℤ). CellIs (inExtent p e z) to a) (toZ-ofZ {w = w32} {z = v} b) (x p)))
 
 -- a part of a run that gave a cell, and what follows it
 cell-no : (m : Ran ℕ) (f : ℕ → Ran ℕ) (at next k : ℕ) → CellIs m at (cell.No k) → CellIs (m >>= f) next (cell.No k)

@@ -7,7 +7,6 @@ use mathlib.Core.Bool.{Bool, true, false, _&&_, false≢true}
 use lib.ListN.{take}
 use lib.IntN.{ℤ, pos, negsuc}
 use lib.Signed.{leZ, ltZ}
-use mir.Syntax.{w64}
 use borrow.Author.Tests.{le-leb, lt-leb, ltb-true, ltb-false}
 use Rattle.reader.specs.Field.{Outcome, got, no, i16}
 use Rattle.reader.specs.Grammar.{form, step}

@@ -7,9 +7,9 @@ use mathlib.Core.Bool.{true, false}
 use lib.ListN.{length, getD, take, set, length-append}
 use lib.Seq.{sets, length-sets}
 use lib.Dec.{eqb}
-use lib.IntN.{ℤ, natAbs}
+use lib.IntN.{ℤ}
 use borrow.Author.Tests.{eqb-true, ne-eqb}
-use mir.Syntax.{w32, w64}
+use mir.Syntax.{w32}
 use mir.Val.{ofZ, toZ, SFits}
 use mir.Facts.{toZ-ofZ}
 use Rattle.model.specs.Tables.{Tables, arrayAt, inside}
@@ -28,8 +28,8 @@ use Rattle.reader.proofs.Binds.{read-by, got-is}
 use Rattle.reader.proofs.Steps.{field-got, field-no}
 use Rattle.reader.proofs.Flattened.{sets-append}
 use Rattle.unroller.specs.Run.{Ran, ok, stop, _>>=_, cellAt, tree, trees}
-use Rattle.unroller.specs.Forms.{Values, Small}
-use Rattle.unroller.specs.Allowed.{allowedTables, fits32}
+use Rattle.unroller.specs.Forms.{Values}
+use Rattle.unroller.specs.Allowed.{allowedTables}
 use Rattle.unroller.specs.Layout.{treeWords, treesWords}
 use Rattle.unroller.specs.Stands.{basesOf}
 use Rattle.unroller.specs.Writes.{CellIs, CellsFrom, CellOf, WroteIs, WritesRead, WritesLiteral, WritesConstant, WritesLeaf}
@@ -43,7 +43,6 @@ use Rattle.unroller.proofs.Parts.{within-high, TablesParts, tables-part
 use Rattle.unroller.proofs.Laws.{tree-length}
 use Rattle.unroller.proofs.Runs.{run-by, ok-is}
 use Rattle.unroller.proofs.Accepted.{cell-at-inside, Bytes, index-below, u32-below, subscripts-length}
-use Rattle.unroller.proofs.Fits.{abs-signed}
 use Rattle.unroller.proofs.Values.{values-none, values-some}
 use Rattle.unroller.proofs.Stands.{bases-length, bases-last, bases-sorted, proper-inside}
 
@@ -113,18 +112,15 @@ module _ (s : List ℕ) (at loops : ℕ) (is : List ℤ) (list : List ℕ) (to :
   unfolding WritesLiteral Values literalOf
   literal-no k q t e next p g l i a w = read-by (form loops s at) _ g λ f at1 e1 r1. values-none (v f at1 e1 l i) q
 
-  pub literal-is : (z : ℤ) (n word : ℕ) → SFits w64 z → Small r → r ≡ valued.Is z n → (fits32 (toZ w64 (ofZ w64 z)) ≡ true → word ≡ ofZ w32 (toZ w64 (ofZ w64 z))) → list′ ≡ sets list to (18 ∷ word ∷ 0 ∷ []) →
+  pub literal-is : (z : ℤ) (n word : ℕ) → SFits w32 z → r ≡ valued.Is z n → word ≡ ofZ w32 (toZ w32 (ofZ w32 z)) → list′ ≡ sets list to (18 ∷ word ∷ 0 ∷ []) →
       WritesLiteral s at loops is list to (wrote.To n (to + 3)) list′
   unfolding WritesLiteral Values literalOf tree treeWords
-  literal-is z n word j small q b0 w t e next p g l i a room =
+  literal-is z n word j q b w t e next p g l i a room =
       read-by (form loops s at) _ g λ f at1 e1 r1.
       let x : at1 ≡ next = cc in
       let h = values-some (v f at1 e1 l i) q in
       got-is (λ e. WroteIs treeWords list to next (tree e t p (take loops is)) (wrote.To n (to + 3)) list′) r1
-      (h .1 ∙ x, refl, w ∙ ap (λ (b : ℕ). sets list to (18 ∷ b ∷ 0 ∷ [])) (bits ∙ ap (ofZ w32) (h .0)))
-    where
-      bits : word ≡ ofZ w32 z
-      bits = subst (λ (z : ℤ). fits32 z ≡ true → word ≡ ofZ w32 z) (toZ-ofZ {w = w64} {z = z} j) b0 (abs-signed 2147483647 z (let h : natAbs z ≤ 33587200 = subst Small q small in omega arith))
+      (h .1 ∙ x, refl, w ∙ ap (λ (x : ℕ). sets list to (18 ∷ x ∷ 0 ∷ [])) (b ∙ ap (ofZ w32) (toZ-ofZ {w = w32} {z = z} j ∙ h .0)))
 
 -- constants
 module _ (s : List ℕ) (at : ℕ) (list : List ℕ) (to : ℕ) (list′ : List ℕ) (r : Field) (says : fieldSays r ≡ u32 s at) where

@@ -1,6 +1,7 @@
-// Affine forms in signed arithmetic. Coefficients and index values are arrays of eight numbers by value; 64 bits hold every sum.
+// Affine forms in signed arithmetic. Coefficients and index values are arrays of eight numbers by value; 32 bits hold every product
+// and every sum.
 ghost use mathlib.Core.Path.{_≡_};
-ghost use Prim.Native.Nat.{_≤_, _<_, _^_};
+ghost use Prim.Native.Nat.{_≤_, _<_};
 ghost use lib.IntN.{_+ℤ_, _*ℤ_, natAbs};
 ghost use mir.Syntax.{w8};
 ghost use mir.Val.{ofZ};
@@ -10,18 +11,25 @@ use reader::fields::Place;
 use reader::fields::i8_of;
 use reader::forms::form_at;
 
-// One more product. The bound is far above what eight products reach.
-fn form_step(sum: i64, coefficient: i8, index: i16) -> i64
-    requires { ⌜ natAbs sum ≤ 2 ^ 40 ⌝ }
-    ensures { λ r. ⌜ r ≡ sum +ℤ (coefficient *ℤ index) ⌝ }
+fn product(coefficient: i8, index: i16) -> i32
+    ensures value { λ r. ⌜ r ≡ coefficient *ℤ index ⌝ }
+    ensures bound { λ r. ⌜ natAbs r ≤ 4_194_304 ⌝ }
 {
-    sum + coefficient as i64 * index as i64
+    coefficient as i32 * index as i32
 }
 
-fn wide(x: i16) -> i64
+// One more product. The bound is that of the constant and eight products.
+fn form_step(sum: i32, coefficient: i8, index: i16) -> i32
+    requires { ⌜ natAbs sum ≤ 33_587_200 ⌝ }
+    ensures { λ r. ⌜ r ≡ sum +ℤ (coefficient *ℤ index) ⌝ }
+{
+    sum + product(coefficient, index)
+}
+
+fn wide(x: i16) -> i32
     ensures { λ r. ⌜ r ≡ x ⌝ }
 {
-    x as i64
+    x as i32
 }
 
 // The bits of a signed byte.
@@ -46,7 +54,7 @@ fn packed(c: [i8; 8]) -> usize
 }
 
 // The value of a form. Most name one or two loops, so the work ends behind the last coefficient that is not 0.
-pub(crate) fn form_value(constant: i16, coefficients: [i8; 8], indices: [i16; 8]) -> i64
+pub(crate) fn form_value(constant: i16, coefficients: [i8; 8], indices: [i16; 8]) -> i32
     ensures value { λ r. ⌜ r ≡ formSum constant coefficients indices 8 ⌝ }
     ensures bound { λ r. ⌜ natAbs r ≤ 33_587_200 ⌝ }
 {
@@ -63,7 +71,7 @@ pub(crate) fn form_value(constant: i16, coefficients: [i8; 8], indices: [i16; 8]
 
 // The value of a form and the place past it, or the number of a question.
 pub(crate) enum Valued {
-    Is(i64, usize),
+    Is(i32, usize),
     No(u8),
 }
 

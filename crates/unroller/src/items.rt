@@ -26,7 +26,7 @@ pub(crate) enum Range {
     No(u8),
 }
 
-fn fits_16(v: i64) -> bool
+fn fits_16(v: i32) -> bool
     ensures { λ r. ⌜ r ≡ fits16 v ⌝ }
 {
     if v < -32768 {
@@ -36,7 +36,7 @@ fn fits_16(v: i64) -> bool
 }
 
 // Do both ends lie in 16 signed bits? 15. The step is at `at`.
-fn stepped(program: &[u8], at: usize, first: i64, last: i64) -> Range
+fn stepped(program: &[u8], at: usize, first: i32, last: i32) -> Range
     ensures steps { λ r. ⌜ Steps (now (program .entry)) at first last r ⌝ }
     ensures moves { λ r. ⌜ Moves r ⌝ }
 {

@@ -1,6 +1,5 @@
 // One executed statement writes one update into the lent list.
 ghost use mathlib.Core.Path.{_≡_};
-ghost use mathlib.Core.Bool.{true};
 ghost use mathlib.Core.List.{[], _∷_};
 ghost use Prim.Native.Nat.{_+_, _*_, _<_, _≤_};
 ghost use lib.ListN.{length, drop};
@@ -9,7 +8,6 @@ ghost use lib.Dec.{ltb};
 ghost use mir.Syntax.{w32};
 ghost use mir.Val.{ofZ};
 ghost use Rattle.reader.specs.Entries.{viewed, tablesIn};
-ghost use Rattle.unroller.specs.Allowed.{fits32};
 ghost use Rattle.unroller.specs.Walk.{progress, RunsStatement};
 ghost use Rattle.unroller.specs.Writes.{InExtent, Below, Subscript, CellOf, WritesRead, WritesLiteral, WritesConstant, WritesLeaf, WritesOperator, leafRecord, WritesRecord, Roomy, WritesNode, Ends, spot, mayRead, recordFine, scanned, Marks, WritesUpdate, Within, Sources, FewNodes, RunsUpdate};
 ghost use Rattle.model.specs.Memory.{listWords};
@@ -69,24 +67,24 @@ fn word(x: usize) -> u32
     if x < 4294967296 { x as u32 } else { 0 }
 }
 
-// A signed number as a word, modulo 2^32.
-fn bits_of(v: i64) -> u32
-    ensures { λ r. ⌜ (fits32 v ≡ true → r ≡ ofZ w32 v) ⌝ }
+// The bits of a signed number.
+fn bits_of(v: i32) -> u32
+    ensures { λ r. ⌜ r ≡ ofZ w32 v ⌝ }
 {
     if v < 0 {
-        4294967295 - word((-1 - v) as usize)
+        4294967295 - (!v) as u32
     } else {
-        word(v as usize)
+        v as u32
     }
 }
 
 // Is the subscript inside its extent? 16. With the extent first LLVM makes one comparison of the two.
-fn in_extent(v: i64, extent: usize, next: usize) -> Cell
+fn in_extent(v: i32, extent: usize, next: usize) -> Cell
     requires { ⌜ extent < 65536 ⌝ }
     ensures says { λ r. ⌜ InExtent extent v next r ⌝ }
     ensures below { λ r. ⌜ Below extent r ⌝ }
 {
-    if v >= extent as i64 {
+    if v >= extent as i32 {
         return Cell::No(16);
     }
     if v < 0 {

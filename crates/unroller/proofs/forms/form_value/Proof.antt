@@ -6,7 +6,7 @@ use native.Mathlib.Omega.{arith}
 use borrow.Author.Needs.{sfits-of}
 use lib.IntN.{ℤ, pos, _+ℤ_, _*ℤ_, natAbs}
 use lib.ListN.{getD}
-use mir.Syntax.{w8, w16, w64}
+use mir.Syntax.{w8, w16, w32}
 use mir.Val.{SFits, toZ, ofZ}
 use mir.Facts.{toZ-ofZ}
 use Rattle.model.proofs.Abs.{abs-add, abs-mul-le, abs-sfits}
@@ -18,7 +18,7 @@ use Rattle.unroller.proofs.forms.form_value.Tie as tie
 
 abbrev Inv-loop : tie.InvT-loop
 Inv-loop constant indices sum₀ rest₀ k₀ sum rest k =
-    (k ≤ 8) × (rest₀ < 2 ^ 64) × (rest ≡ rest₀ / 2 ^ (8 * k)) × (toZ w64 sum ≡ formSum (toZ w16 constant) (bytesOf 8 rest₀) indices k) × (natAbs (toZ w64 sum) ≤ 32768 + k * 4194304)
+    (k ≤ 8) × (rest₀ < 2 ^ 64) × (rest ≡ rest₀ / 2 ^ (8 * k)) × (toZ w32 sum ≡ formSum (toZ w16 constant) (bytesOf 8 rest₀) indices k) × (natAbs (toZ w32 sum) ≤ 32768 + k * 4194304)
 
 abbrev μ-loop : tie.MeasureT-loop
 μ-loop constant indices sum₀ rest₀ k₀ sum rest k = 8 - k
@@ -34,7 +34,7 @@ unfolding formSum
 loop-holds c =
     let x = c .before .before .args .constant in
     let f : SFits w16 x = c .before .before .fits .constant in
-    let e : toZ w64 (ofZ w64 (c .before .wide .result)) ≡ x = toZ-ofZ (sfits-of (c .before .wide .ok)) ∙ c .before .wide .ensures ∙ toZ-ofZ f in
+    let e : toZ w32 (ofZ w32 (c .before .wide .result)) ≡ x = toZ-ofZ (sfits-of (c .before .wide .ok)) ∙ c .before .wide .ensures ∙ toZ-ofZ f in
     (omega arith, c .packed .ok, sym (div-one _), e ∙ sym (toZ-ofZ f), subst (λ (z : ℤ). natAbs z ≤ 32768) (sym e) (abs-sfits f))
 
 cast-i8-of : tie.Need-cast-i8-of Inv-loop μ-loop
@@ -65,7 +65,7 @@ loop-again c =
     let i = c .before .before .before .before .loop .inv in
     let w = c .before .before .before .before .before .packed .result in
     let rest = c .before .before .before .before .loop .rest in
-    let sum = toZ w64 (c .before .before .before .before .loop .sum) in
+    let sum = toZ w32 (c .before .before .before .before .loop .sum) in
     let a = c .before .before .before .before .before .before .before .args in
     let h : k < 8 = rest-few w k rest (i .1) (i .0) (i .2) (λ e. omega arith) in
     let x = getD (bytesOf 8 w) k (pos 0) in
@@ -73,7 +73,7 @@ loop-again c =
     let fx : SFits w8 (c .before .before .i8-of .result) = sfits-of (c .before .before .i8-of .ok) in
     let ex : c .before .before .i8-of .result ≡ x = c .before .before .i8-of .ensures ∙ rest-first w k rest (i .1) (i .0) (i .2) h in
     let fy : SFits w16 y = sfits-of (c .before .form-step-arg .given) in
-    let e : toZ w64 (ofZ w64 (c .form-step .result)) ≡ sum +ℤ (x *ℤ y) =
+    let e : toZ w32 (ofZ w32 (c .form-step .result)) ≡ sum +ℤ (x *ℤ y) =
     toZ-ofZ (sfits-of (c .form-step .ok)) ∙ c .form-step .ensures ∙ ap₂ (λ (p q : ℤ). sum +ℤ (p *ℤ q)) (toZ-ofZ fx ∙ ex) (toZ-ofZ fy) in
     let p : natAbs (x *ℤ y) ≤ 4194304 = abs-mul-le x y 128 32768 (abs-sfits (subst (SFits w8) ex fx)) (abs-sfits fy) in
     let b : natAbs (sum +ℤ (x *ℤ y)) ≤ 32768 + (k + 1) * 4194304 = omega (arith, abs-add sum (x *ℤ y), i .4) in (

@@ -8,7 +8,7 @@ use Prim.Native.Nat.{ℕ, suc, _+_, _-_, _*_, _≤_, _<_}
 use lib.ListN.{length}
 use lib.IntN.{ℤ, pos, _+ℤ_}
 use lib.Signed.{ltZ}
-use mir.Syntax.{w16, w32, w64}
+use mir.Syntax.{w16, w32}
 use mir.Val.{SFits, toZ, ofZ}
 use mir.Facts.{toZ-ofZ, sfits-toZ}
 use Rattle.model.proofs.Abs.{widens, widened}
@@ -342,7 +342,7 @@ module _ (t : ℕ) where
   run-guard-passed-requires c κs = tt
 
   run-guard-returns-2 : run-guard-lts.Need-returns-2 (run-guard-claims t) (run-guard-at t) run-guard.Post
-  run-guard-returns-2 c = let a = c .before .before .before .before .before .before .before .before .before .args in let s = a .program .now in let t = tablesIn (a .tables .now) in let b = viewed (a .tables .now) .bases in guard-passes s t b (a .left) (a .left - 1) (a .loops) (a .indices) (a .at) (progress (a .made) (a .nodes) (a .updates)) (a .list .now) (a .flags .now) (let n = c .before .before .before .before .before .before .if1 .left in omega arith) (c .before .before .before .before .before .value-at .result) (c .before .before .before .value .given .0 .0) (c .before .before .before .value .given .0 .1 .0) (c .before .before .before .value .given .1) (c .before .before .before .before .before .value-at .ensures .0) (c .passed .result) (subst (λ (v : ℤ). ltZ v (pos 0) ≡ true) (toZ-ofZ {w = w64} {z = c .before .before .before .value .given .0 .0} (sfits-of (c .before .before .known-told2 .given .0 .1))) (c .before .if2 .taken)) (c .passed .ensures)
+  run-guard-returns-2 c = let a = c .before .before .before .before .before .before .before .before .before .args in let s = a .program .now in let t = tablesIn (a .tables .now) in let b = viewed (a .tables .now) .bases in guard-passes s t b (a .left) (a .left - 1) (a .loops) (a .indices) (a .at) (progress (a .made) (a .nodes) (a .updates)) (a .list .now) (a .flags .now) (let n = c .before .before .before .before .before .before .if1 .left in omega arith) (c .before .before .before .before .before .value-at .result) (c .before .before .before .value .given .0 .0) (c .before .before .before .value .given .0 .1 .0) (c .before .before .before .value .given .1) (c .before .before .before .before .before .value-at .ensures .0) (c .passed .result) (subst (λ (v : ℤ). ltZ v (pos 0) ≡ true) (toZ-ofZ {w = w32} {z = c .before .before .before .value .given .0 .0} (sfits-of (c .before .before .known-told2 .given .0 .1))) (c .before .if2 .taken)) (c .passed .ensures)
 
   run-guard-sub-items : run-guard-lts.Need-sub-items (run-guard-claims t) (run-guard-at t) run-guard.Post
   run-guard-sub-items c = omega arith
@@ -357,7 +357,7 @@ module _ (t : ℕ) where
   run-guard-same-length c = search needs
 
   run-guard-returns-4 : run-guard-lts.Need-returns-4 (run-guard-claims t) (run-guard-at t) run-guard.Post
-  run-guard-returns-4 c = let a = c .before .before .before .before .before .before .before .before .before .before .before .before .before .args in let s = a .program .now in let t = tablesIn (a .tables .now) in let b = viewed (a .tables .now) .bases in guard-runs s t b (a .left) (a .left - 1) (a .loops) (a .indices) (a .at) (progress (a .made) (a .nodes) (a .updates)) (a .list .now) (a .flags .now) (let n = c .before .before .before .before .before .before .before .before .before .before .if1 .left in omega arith) (c .before .before .before .before .before .before .before .before .before .value-at .result) (c .before .before .before .before .before .before .before .value .given .0 .0) (c .before .before .before .before .before .before .before .value .given .0 .1 .0) (c .before .before .before .before .before .before .before .value .given .1) (c .before .before .before .before .before .before .before .before .before .value-at .ensures .0) (c .before .before .items .result) (c .before .before .items .last .1 .1 .1 .1 .1 .1 .1 .1 .1 .1 .0) (c .before .before .items .last .1 .1 .1 .1 .1 .1 .1 .1 .1 .0) (subst (λ (v : ℤ). ltZ v (pos 0) ≡ false) (toZ-ofZ {w = w64} {z = c .before .before .before .before .before .before .before .value .given .0 .0} (sfits-of (c .before .before .before .before .before .before .known-told2 .given .0 .1))) (c .before .before .before .before .before .if2 .left)) (c .before .before .items .ensures)
+  run-guard-returns-4 c = let a = c .before .before .before .before .before .before .before .before .before .before .before .before .before .args in let s = a .program .now in let t = tablesIn (a .tables .now) in let b = viewed (a .tables .now) .bases in guard-runs s t b (a .left) (a .left - 1) (a .loops) (a .indices) (a .at) (progress (a .made) (a .nodes) (a .updates)) (a .list .now) (a .flags .now) (let n = c .before .before .before .before .before .before .before .before .before .before .if1 .left in omega arith) (c .before .before .before .before .before .before .before .before .before .value-at .result) (c .before .before .before .before .before .before .before .value .given .0 .0) (c .before .before .before .before .before .before .before .value .given .0 .1 .0) (c .before .before .before .before .before .before .before .value .given .1) (c .before .before .before .before .before .before .before .before .before .value-at .ensures .0) (c .before .before .items .result) (c .before .before .items .last .1 .1 .1 .1 .1 .1 .1 .1 .1 .1 .0) (c .before .before .items .last .1 .1 .1 .1 .1 .1 .1 .1 .1 .0) (subst (λ (v : ℤ). ltZ v (pos 0) ≡ false) (toZ-ofZ {w = w32} {z = c .before .before .before .before .before .before .before .value .given .0 .0} (sfits-of (c .before .before .before .before .before .before .known-told2 .given .0 .1))) (c .before .before .before .before .before .if2 .left)) (c .before .before .items .ensures)
 
   run-loop-returns : run-loop-lts.Need-returns (run-loop-claims t) (run-loop-at t) run-loop.Post
   run-loop-returns c = let a = c .before .before .before .args in let s = a .program .now in let t = tablesIn (a .tables .now) in let b = viewed (a .tables .now) .bases in nested-none s t b (a .left) (a .loops) (a .indices) (a .at) (progress (a .made) (a .nodes) (a .updates)) (a .list .now) (a .flags .now) _ (a .list .now) (a .flags .now) 2 (c .if1 .taken)

@@ -5,7 +5,7 @@ use mathlib.Core.Path.{_≡_, refl, sym, ap, _∙_, subst}
 use mathlib.Core.Bool.{Bool, true, false}
 use lib.IntN.{ℤ, pos, negsuc}
 use lib.Signed.{ltZ, leZ}
-use mir.Syntax.{w16, w64}
+use mir.Syntax.{w16, w32}
 use mir.Val.{SFits, toZ, ofZ}
 use mir.Facts.{toZ-ofZ}
 use Rattle.unroller.specs.Run.{fits16}
@@ -42,7 +42,7 @@ returns-2 : tie.Need-returns-2
 returns-2 c = let a = c .before .before .before .before .before .before .before .before .before .args in let f = c .before .before .before .before .before .before .before .before .before .fits in (ranges-last (a .program .now) (a .at) (a .loops) (a .indices) (c .before .before .before .before .before .before .before .value-at .result) (c .before .before .before .value-at2 .result) (c .before .before .before .before .before .first .given .0 .0) (c .before .before .before .before .before .first .given .0 .1 .0) (c .before .before .before .before .before .first .given .1) (c .before .before .before .before .before .before .before .value-at .ensures .0) (c .before .before .before .value-at2 .ensures .0) (c .before .number2 .given .0 .0) (c .before .number2 .given .1), tt)
 
 returns-3 : tie.Need-returns-3
-returns-3 c = let a = c .before .before .before .before .before .before .before .before .before .before .args in let f = c .before .before .before .before .before .before .before .before .before .before .fits in let v = c .before .before .before .before .before .before .first .given .0 .0 in let w = c .before .before .last .given .0 .0 in (ranges-both (a .program .now) (a .at) (a .loops) (a .indices) (c .before .before .before .before .before .before .before .before .value-at .result) (c .before .before .before .before .value-at2 .result) v (c .before .before .before .before .before .before .first .given .0 .1 .0) (c .before .before .before .before .before .before .first .given .1) (c .before .before .before .before .before .before .before .before .value-at .ensures .0) (c .before .before .before .before .value-at2 .ensures .0) w (c .before .before .last .given .0 .1 .0) (c .stepped .result) (c .before .before .last .given .1) (subst (λ (x : ℤ). Steps (a .program .now) (c .before .before .last .given .0 .1 .0) x w (c .stepped .result)) (toZ-ofZ {w = w64} {z = v} (sfits-of (c .before .before .before .before .before .known-told2 .given .0 .1))) (subst (λ (x : ℤ). Steps (a .program .now) (c .before .before .last .given .0 .1 .0) (toZ w64 (ofZ w64 v)) x (c .stepped .result)) (toZ-ofZ {w = w64} {z = w} (sfits-of (c .before .known-told4 .given .0 .1))) (c .stepped .ensures .0))), c .stepped .ensures .1)
+returns-3 c = let a = c .before .before .before .before .before .before .before .before .before .before .args in let f = c .before .before .before .before .before .before .before .before .before .before .fits in let v = c .before .before .before .before .before .before .first .given .0 .0 in let w = c .before .before .last .given .0 .0 in (ranges-both (a .program .now) (a .at) (a .loops) (a .indices) (c .before .before .before .before .before .before .before .before .value-at .result) (c .before .before .before .before .value-at2 .result) v (c .before .before .before .before .before .before .first .given .0 .1 .0) (c .before .before .before .before .before .before .first .given .1) (c .before .before .before .before .before .before .before .before .value-at .ensures .0) (c .before .before .before .before .value-at2 .ensures .0) w (c .before .before .last .given .0 .1 .0) (c .stepped .result) (c .before .before .last .given .1) (subst (λ (x : ℤ). Steps (a .program .now) (c .before .before .last .given .0 .1 .0) x w (c .stepped .result)) (toZ-ofZ {w = w32} {z = v} (sfits-of (c .before .before .before .before .before .known-told2 .given .0 .1))) (subst (λ (x : ℤ). Steps (a .program .now) (c .before .before .last .given .0 .1 .0) (toZ w32 (ofZ w32 v)) x (c .stepped .result)) (toZ-ofZ {w = w32} {z = w} (sfits-of (c .before .known-told4 .given .0 .1))) (c .stepped .ensures .0))), c .stepped .ensures .1)
 
 pub range-at-spec : {M : Type 1} → statement M
 range-at-spec = tie.close (tie.spec value-at-requires enum-known-number enum-known-first value-at-requires-2 enum-known-number-2 enum-known-last stepped-requires returns returns-2 returns-3)

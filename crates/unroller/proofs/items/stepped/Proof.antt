@@ -5,7 +5,7 @@ use mathlib.Core.Path.{_≡_, refl, sym, ap, _∙_, subst}
 use mathlib.Core.Bool.{Bool, true, false}
 use lib.IntN.{ℤ, pos, negsuc}
 use lib.Signed.{ltZ, leZ}
-use mir.Syntax.{w16, w64}
+use mir.Syntax.{w16, w32}
 use mir.Val.{SFits, toZ, ofZ}
 use mir.Facts.{toZ-ofZ}
 use Rattle.unroller.specs.Run.{fits16}
@@ -15,8 +15,8 @@ use Rattle.unroller.proofs.Ranges.{below16, within-16, steps-refused, s
 use Rattle.unroller.proofs.items.stepped.Statement.{statement}
 use Rattle.unroller.proofs.items.stepped.Tie as tie
 
--- an end that fits 16 bits, cast from its bits of 64
-back : {z : ℤ} → SFits w64 z → SFits w16 z → toZ w16 (ofZ w16 (toZ w64 (ofZ w64 z))) ≡ z
+-- an end that fits 16 bits, cast from its bits of 32
+back : {z : ℤ} → SFits w32 z → SFits w16 z → toZ w16 (ofZ w16 (toZ w32 (ofZ w32 z))) ≡ z
 back f g = ap (λ (y : ℤ). toZ w16 (ofZ w16 y)) (toZ-ofZ f) ∙ toZ-ofZ g
 
 step-at-requires : tie.Need-step-at-requires

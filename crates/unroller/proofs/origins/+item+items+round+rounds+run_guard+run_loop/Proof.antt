@@ -7,7 +7,7 @@ use Prim.Native.Nat.{ℕ, _+_, _-_, _*_, _<_}
 use lib.ListN.{length}
 use lib.IntN.{ℤ, pos, _+ℤ_}
 use lib.Signed.{ltZ}
-use mir.Syntax.{w16, w32, w64}
+use mir.Syntax.{w16, w32}
 use mir.Val.{toZ, ofZ}
 use mir.Facts.{toZ-ofZ}
 use Rattle.model.proofs.Abs.{widens}
@@ -275,7 +275,7 @@ module _ (t : ℕ) where
   run-guard-passed-requires c κs = tt
 
   run-guard-returns-2 : run-guard-lts.Need-returns-2 (run-guard-claims t) (run-guard-at t) run-guard.Post
-  run-guard-returns-2 c = let a = c .before .before .before .before .before .before .before .before .args in let s = a .program .now in let t = tablesIn (a .tables .now) in guard-passes s t (a .left) (a .left - 1) (a .loops) (a .indices) (a .array) (a .cell) (a .at) (held (a .last .now) (a .values .now)) (let n = c .before .before .before .before .before .before .if1 .left in omega arith) (c .before .before .before .before .before .value-at .result) (c .before .before .before .value .given .0 .0) (c .before .before .before .value .given .0 .1 .0) (c .before .before .before .value .given .1) (c .before .before .before .before .before .value-at .ensures .0) (c .passed .result) (held (a .last .now) (a .values .now)) (subst (λ (v : ℤ). ltZ v (pos 0) ≡ true) (toZ-ofZ {w = w64} {z = c .before .before .before .value .given .0 .0} (sfits-of (c .before .before .known-told .given .0 .1))) (c .before .if2 .taken)) (c .passed .ensures) refl
+  run-guard-returns-2 c = let a = c .before .before .before .before .before .before .before .before .args in let s = a .program .now in let t = tablesIn (a .tables .now) in guard-passes s t (a .left) (a .left - 1) (a .loops) (a .indices) (a .array) (a .cell) (a .at) (held (a .last .now) (a .values .now)) (let n = c .before .before .before .before .before .before .if1 .left in omega arith) (c .before .before .before .before .before .value-at .result) (c .before .before .before .value .given .0 .0) (c .before .before .before .value .given .0 .1 .0) (c .before .before .before .value .given .1) (c .before .before .before .before .before .value-at .ensures .0) (c .passed .result) (held (a .last .now) (a .values .now)) (subst (λ (v : ℤ). ltZ v (pos 0) ≡ true) (toZ-ofZ {w = w32} {z = c .before .before .before .value .given .0 .0} (sfits-of (c .before .before .known-told .given .0 .1))) (c .before .if2 .taken)) (c .passed .ensures) refl
 
   run-guard-sub-items : run-guard-lts.Need-sub-items (run-guard-claims t) (run-guard-at t) run-guard.Post
   run-guard-sub-items c = omega arith
@@ -287,7 +287,7 @@ module _ (t : ℕ) where
   run-guard-returns-3 c = let a = c .before .before .before .before .before .args in let s = a .program .now in let t = tablesIn (a .tables .now) in guard-lost s t (a .left) (a .left - 1) (a .loops) (a .indices) (a .array) (a .cell) (a .at) (held (a .last .now) (a .values .now)) (let n = c .before .before .before .if1 .left in omega arith) (c .before .before .value-at .result) _ (c .enum-told .given .1) (c .before .before .value-at .ensures .0) _ _
 
   run-guard-returns-4 : run-guard-lts.Need-returns-4 (run-guard-claims t) (run-guard-at t) run-guard.Post
-  run-guard-returns-4 c = let a = c .before .before .before .before .before .before .before .before .before .before .args in let s = a .program .now in let t = tablesIn (a .tables .now) in guard-runs s t (a .left) (a .left - 1) (a .loops) (a .indices) (a .array) (a .cell) (a .at) (held (a .last .now) (a .values .now)) (let n = c .before .before .before .before .before .before .before .before .if1 .left in omega arith) (c .before .before .before .before .before .before .before .value-at .result) (c .before .before .before .before .before .value .given .0 .0) (c .before .before .before .before .before .value .given .0 .1 .0) (c .before .before .before .before .before .value .given .1) (c .before .before .before .before .before .before .before .value-at .ensures .0) (c .items .result) (held (c .items .last .1 .1 .1 .1 .1 .1 .1 .1 .0) (c .items .last .1 .1 .1 .1 .1 .1 .1 .1 .1 .0)) (subst (λ (v : ℤ). ltZ v (pos 0) ≡ false) (toZ-ofZ {w = w64} {z = c .before .before .before .before .before .value .given .0 .0} (sfits-of (c .before .before .before .before .known-told .given .0 .1))) (c .before .before .before .if2 .left)) (c .items .ensures)
+  run-guard-returns-4 c = let a = c .before .before .before .before .before .before .before .before .before .before .args in let s = a .program .now in let t = tablesIn (a .tables .now) in guard-runs s t (a .left) (a .left - 1) (a .loops) (a .indices) (a .array) (a .cell) (a .at) (held (a .last .now) (a .values .now)) (let n = c .before .before .before .before .before .before .before .before .if1 .left in omega arith) (c .before .before .before .before .before .before .before .value-at .result) (c .before .before .before .before .before .value .given .0 .0) (c .before .before .before .before .before .value .given .0 .1 .0) (c .before .before .before .before .before .value .given .1) (c .before .before .before .before .before .before .before .value-at .ensures .0) (c .items .result) (held (c .items .last .1 .1 .1 .1 .1 .1 .1 .1 .0) (c .items .last .1 .1 .1 .1 .1 .1 .1 .1 .1 .0)) (subst (λ (v : ℤ). ltZ v (pos 0) ≡ false) (toZ-ofZ {w = w32} {z = c .before .before .before .before .before .value .given .0 .0} (sfits-of (c .before .before .before .before .known-told .given .0 .1))) (c .before .before .before .if2 .left)) (c .items .ensures)
 
   run-loop-returns : run-loop-lts.Need-returns (run-loop-claims t) (run-loop-at t) run-loop.Post
   run-loop-returns c = let a = c .before .before .args in let s = a .program .now in let t = tablesIn (a .tables .now) in nested-none s t (a .left) (a .loops) (a .indices) (a .array) (a .cell) (a .at) (held (a .last .now) (a .values .now)) _ _ 2 (c .if1 .taken)

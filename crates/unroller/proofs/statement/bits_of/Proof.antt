@@ -1,41 +1,22 @@
-use borrow.Author.Needs.{needs}
-use Rattle.unroller.proofs.Cells.{sign-pos, away-fits, away-cast, bits-neg, bits-pos}
+use mir.Syntax.{w32}
+use Rattle.model.proofs.Signs.{plus-cast, plus-bits, minus-cast, minus-most, minus-bits}
 use Rattle.unroller.proofs.statement.bits_of.Statement.{statement}
 use Rattle.unroller.proofs.statement.bits_of.Tie as tie
 
-sub-word : tie.Need-sub-word
-sub-word c = away-fits (c .before .args .v) (c .before .fits .v) (c .if1 .taken)
-
-cast-word : tie.Need-cast-word
-cast-word c = away-cast (c .before .args .v) (c .before .fits .v) (c .if1 .taken)
-
-word-requires : tie.Need-word-requires
-word-requires c κs = search needs
+cast-result : tie.Need-cast-result
+cast-result c = minus-cast w32 (c .before .args .v) (c .before .fits .v) w32 tt (c .if1 .taken)
 
 sub-result : tie.Need-sub-result
-sub-result c = search needs
+sub-result c = minus-most w32 (c .before .args .v) (c .before .fits .v) (c .if1 .taken)
 
-cast-word-2 : tie.Need-cast-word-2
-cast-word-2 c = sign-pos (c .before .args .v) (c .before .fits .v) (c .if1 .left)
-
-word-requires-2 : tie.Need-word-requires-2
-word-requires-2 c κs = search needs
+cast-result-2 : tie.Need-cast-result-2
+cast-result-2 c = plus-cast w32 (c .before .args .v) (c .before .fits .v) w32 tt (c .if1 .left)
 
 returns : tie.Need-returns
-returns c = bits-neg (c .before .before .args .v) (c .before .before .fits .v) (c .before .if1 .taken) (c .word .result) (c .word .ensures)
+returns c = minus-bits w32 (c .before .args .v) (c .before .fits .v) (c .if1 .taken)
 
 returns-2 : tie.Need-returns-2
-returns-2 c = bits-pos (c .before .before .args .v) (c .before .before .fits .v) (c .before .if1 .left) (c .word2 .result) (c .word2 .ensures)
+returns-2 c = plus-bits w32 (c .before .args .v) (c .before .fits .v) (c .if1 .left)
 
 pub bits-of-spec : {M : Type 1} → statement M
-bits-of-spec =
-    tie.close
-    (tie.spec
-    sub-word
-    cast-word
-    word-requires
-    sub-result
-    cast-word-2
-    word-requires-2
-    returns
-    returns-2)
+bits-of-spec = tie.close (tie.spec cast-result sub-result cast-result-2 returns returns-2)

@@ -1,5 +1,7 @@
 use native.Mathlib.Omega.{arith}
-use Rattle.unroller.proofs.Cells.{sign-pos, extent-negative, extent-beyond, inside-below, extent-inside}
+use mir.Syntax.{w32, w64}
+use Rattle.model.proofs.Signs.{plus-cast}
+use Rattle.unroller.proofs.Cells.{extent-negative, extent-beyond, inside-below, extent-inside}
 use Rattle.unroller.proofs.statement.in_extent.Statement.{statement}
 use Rattle.unroller.proofs.statement.in_extent.Tie as tie
 
@@ -13,7 +15,7 @@ returns-2 : tie.Need-returns-2
 returns-2 c = (extent-negative (c .before .before .args .v) (c .before .before .fits .v) _ _ (c .if2 .taken), tt)
 
 cast-t6 : tie.Need-cast-t6
-cast-t6 c = sign-pos (c .before .before .args .v) (c .before .before .fits .v) (c .if2 .left)
+cast-t6 c = plus-cast w32 (c .before .before .args .v) (c .before .before .fits .v) w64 tt (c .if2 .left)
 
 returns-3 : tie.Need-returns-3
 returns-3 c = let a = c .before .before in (

@@ -28,7 +28,7 @@ same-length : tie.Need-same-length
 same-length c = search needs
 
 returns-2 : tie.Need-returns-2
-returns-2 c = literal-is _ _ _ _ _ _ _ (c .before .before .before .before .before .before .before .before .value-at .result) (c .before .before .before .before .before .before .before .before .value-at .ensures .0) (c .before .before .before .before .before .before .v .given .0 .0) _ (c .before .before .before .bits-of .result) (search needs) (c .before .before .before .before .before .before .before .before .value-at .ensures .1) (c .before .before .before .before .before .before .v .given .1) (c .before .before .before .bits-of .ensures) (c .before .before .put .ensures)
+returns-2 c = literal-is _ _ _ _ _ _ _ (c .before .before .before .before .before .before .before .before .value-at .result) (c .before .before .before .before .before .before .before .before .value-at .ensures .0) (c .before .before .before .before .before .before .v .given .0 .0) _ (c .before .before .before .bits-of .result) (search needs) (c .before .before .before .before .before .before .v .given .1) (c .before .before .before .bits-of .ensures) (c .before .before .put .ensures)
 
 pub write-literal-spec : {M : Type 1} → statement M
 write-literal-spec =
