@@ -3,10 +3,17 @@
 use separate::limits::LIST_WORDS;
 use separate::notation::assemble;
 
-/// `inside` within so many loops, x0, x1 and so on, of one round at this index.
+/// `inside` within loops x0, x1 and so on, each of one round, at these indices.
+fn nest_at(indices: &[i32], inside: &str) -> Vec<u8> {
+    let head = |(k, index): (usize, &i32)| format!("for x{k} = {index} to {index} {{ ");
+    let heads: String = indices.iter().enumerate().map(head).collect();
+    let ends = "}".repeat(indices.len());
+    assemble(&format!("array A out [1] {heads}{inside}{ends}")).expect("a program")
+}
+
+/// The same with one index for all loops.
 fn nest(loops: usize, index: i32, inside: &str) -> Vec<u8> {
-    let heads: String = (0..loops).map(|k| format!("for x{k} = {index} to {index} {{ ")).collect();
-    assemble(&format!("array A out [1] {heads}{inside}{}", "}".repeat(loops))).expect("a program")
+    nest_at(&vec![index; loops], inside)
 }
 
 /// Constant and products with the coefficient -128.
@@ -52,5 +59,27 @@ fn subscripts_starts_and_ends() {
         let seven = |text: String| unrolled(&nest(7, ends.0, &text)).expect_err("refused").0;
         assert_eq!(seven(format!("for y = {} to 0 {{ }}", form(7, ends.1))), 15);
         assert_eq!(seven(format!("for y = 0 to {} {{ }}", form(7, ends.1))), 15);
+    }
+}
+
+/// The lowest or the highest number, by the bits of `mask`.
+fn corners(mask: u32, lowest: i32, highest: i32) -> [i32; 8] {
+    std::array::from_fn(|k| if mask >> k & 1 == 0 { lowest } else { highest })
+}
+
+/// Every choice of lowest and highest constants, coefficients and index values: the sums go up and down on their way, and are held
+/// against sums of 64 bits.
+#[test]
+fn every_corner() {
+    for chosen in 0..1 << 17 {
+        let coefficients = corners(chosen, -128, 127);
+        let indices = corners(chosen >> 8, -32_768, 32_767);
+        let constant = corners(chosen >> 16, -32_768, 32_767)[0];
+        let products: String =
+            coefficients.iter().enumerate().map(|(k, c)| format!(" {c:+}*x{k}")).collect();
+        let sum = coefficients.iter().zip(&indices).map(|(&c, &i)| i64::from(c) * i64::from(i));
+        let value = i64::from(constant) + sum.sum::<i64>();
+        let program = nest_at(&indices, &format!("A[0] = {constant}{products}"));
+        assert_eq!(unrolled(&program), Ok(vec![1, 0, 0, 18, value as u32, 0]));
     }
 }
