@@ -1,7 +1,7 @@
 // Affine forms in signed arithmetic. Coefficients and index values are arrays of eight numbers by value; 32 bits hold every product
 // and every sum.
 ghost use mathlib.Core.Path.{_≡_};
-ghost use Prim.Native.Nat.{_≤_, _<_};
+ghost use Prim.Native.Nat.{_+_, _≤_, _<_};
 ghost use lib.IntN.{_+ℤ_, _*ℤ_, natAbs};
 ghost use mir.Syntax.{w8};
 ghost use mir.Val.{ofZ};
@@ -21,7 +21,8 @@ fn product(coefficient: i8, index: i16) -> i32
 // One more product. The bound is that of the constant and eight products.
 fn form_step(sum: i32, coefficient: i8, index: i16) -> i32
     requires { ⌜ natAbs sum ≤ 33_587_200 ⌝ }
-    ensures { λ r. ⌜ r ≡ sum +ℤ (coefficient *ℤ index) ⌝ }
+    ensures value { λ r. ⌜ r ≡ sum +ℤ (coefficient *ℤ index) ⌝ }
+    ensures bound { λ r. ⌜ natAbs r ≤ natAbs sum + 4_194_304 ⌝ }
 {
     sum + product(coefficient, index)
 }

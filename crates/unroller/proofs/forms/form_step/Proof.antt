@@ -1,7 +1,10 @@
-use mathlib.Core.Path.{ap₂, _∙_}
+use mathlib.Core.Path.{_≡_, sym, ap, ap₂, _∙_, subst}
+use Prim.Native.Nat.{_+_, _≤_}
 use native.Mathlib.Omega.{arith}
 use borrow.Author.Needs.{needs, sfits-of}
-use lib.IntN.{ℤ, _+ℤ_, _*ℤ_}
+use lib.IntN.{ℤ, _+ℤ_, _*ℤ_, natAbs}
+use mir.Syntax.{w32}
+use mir.Val.{toZ, ofZ}
 use mir.Facts.{toZ-ofZ}
 use Rattle.model.proofs.Abs.{abs-add, sfits-abs}
 use Rattle.unroller.proofs.forms.form_step.Statement.{statement}
@@ -17,10 +20,13 @@ add-result c =
 
 returns : tie.Need-returns
 returns c =
-    let a = c .before .args in
+    let s = c .before .args .sum in
     let f = c .before .fits in
-    toZ-ofZ (add-result c)
-    ∙ ap₂ (λ (s p : ℤ). s +ℤ p) (toZ-ofZ (f .sum)) (toZ-ofZ (sfits-of (c .product .ok)) ∙ c .product .ensures .0 ∙ ap₂ (λ (x i : ℤ). x *ℤ i) (toZ-ofZ (f .coefficient)) (toZ-ofZ (f .index)))
+    let p = c .product .result in
+    let e : toZ w32 (ofZ w32 (toZ w32 (ofZ w32 s) +ℤ toZ w32 (ofZ w32 p))) ≡ s +ℤ p = toZ-ofZ (add-result c) ∙ ap₂ (λ (x y : ℤ). x +ℤ y) (toZ-ofZ (f .sum)) (toZ-ofZ (sfits-of (c .product .ok))) in (
+      e ∙ ap (λ (y : ℤ). s +ℤ y) (c .product .ensures .0 ∙ ap₂ (λ (x i : ℤ). x *ℤ i) (toZ-ofZ (f .coefficient)) (toZ-ofZ (f .index))),
+      subst (λ (z : ℤ). natAbs z ≤ natAbs s + 4194304) (sym e) (omega (arith, c .product .ensures .1, abs-add s p)),
+    )
 
 pub form-step-spec : {M : Type 1} → statement M
 form-step-spec = tie.close (tie.spec product-requires add-result returns)

@@ -9,7 +9,7 @@ use lib.ListN.{getD}
 use mir.Syntax.{w8, w16, w32}
 use mir.Val.{SFits, toZ, ofZ}
 use mir.Facts.{toZ-ofZ}
-use Rattle.model.proofs.Abs.{abs-add, abs-mul-le, abs-sfits}
+use Rattle.model.proofs.Abs.{abs-sfits}
 use Rattle.reader.specs.Entries.{bytesOf}
 use Rattle.unroller.specs.Forms.{formSum}
 use Rattle.unroller.proofs.Sums.{rest-few, rest-first, rest-next, rest-none}
@@ -73,15 +73,15 @@ loop-again c =
     let fx : SFits w8 (c .before .before .i8-of .result) = sfits-of (c .before .before .i8-of .ok) in
     let ex : c .before .before .i8-of .result ≡ x = c .before .before .i8-of .ensures ∙ rest-first w k rest (i .1) (i .0) (i .2) h in
     let fy : SFits w16 y = sfits-of (c .before .form-step-arg .given) in
+    let r : toZ w32 (ofZ w32 (c .form-step .result)) ≡ c .form-step .result = toZ-ofZ (sfits-of (c .form-step .ok)) in
+    let b : natAbs (c .form-step .result) ≤ 32768 + (k + 1) * 4194304 = omega (arith, c .form-step .ensures .1, i .4) in
     let e : toZ w32 (ofZ w32 (c .form-step .result)) ≡ sum +ℤ (x *ℤ y) =
-    toZ-ofZ (sfits-of (c .form-step .ok)) ∙ c .form-step .ensures ∙ ap₂ (λ (p q : ℤ). sum +ℤ (p *ℤ q)) (toZ-ofZ fx ∙ ex) (toZ-ofZ fy) in
-    let p : natAbs (x *ℤ y) ≤ 4194304 = abs-mul-le x y 128 32768 (abs-sfits (subst (SFits w8) ex fx)) (abs-sfits fy) in
-    let b : natAbs (sum +ℤ (x *ℤ y)) ≤ 32768 + (k + 1) * 4194304 = omega (arith, abs-add sum (x *ℤ y), i .4) in (
+    r ∙ c .form-step .ensures .0 ∙ ap₂ (λ (p q : ℤ). sum +ℤ (p *ℤ q)) (toZ-ofZ fx ∙ ex) (toZ-ofZ fy) in (
       omega arith,
       i .1,
       rest-next w k rest (i .1) (i .0) (i .2),
       e ∙ ap (λ (z : ℤ). z +ℤ (x *ℤ y)) (i .3) ∙ ap (formSum (toZ w16 (ofZ w16 (a .constant))) (bytesOf 8 w) (a .t3)) (sym (add-one k)),
-      subst (λ (z : ℤ). natAbs z ≤ 32768 + (k + 1) * 4194304) (sym e) b,
+      subst (λ (z : ℤ). natAbs z ≤ 32768 + (k + 1) * 4194304) (sym r) b,
     )
 
 returns : tie.Need-returns Inv-loop μ-loop
