@@ -11,6 +11,7 @@ pub mod KeptLists
 pub mod Theorems
 pub mod Itself
 pub mod Input
+pub mod Batches
 pub mod Table
 pub mod Examples
 pub mod Writing
@@ -19,6 +20,7 @@ mod Headers
 mod ListEntries
 mod Clearing
 mod ProgramEntries
+mod BatchLaws
 pub mod Explains
 pub mod Explanations
 mod Stretches

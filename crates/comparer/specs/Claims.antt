@@ -1,14 +1,14 @@
 -- Every promise of the product about its definitions, each as a named type. README.md says where each is proved.
 -- That each entry's code meets these definitions is its contract.
-use Prim.Native.Nat.{ℕ, _≤_, _<_}
+use Prim.Native.Nat.{ℕ, suc, _+_, _*_, _/_, _%_, _≤_, _<_}
 use mathlib.Core.Path.{_≡_}
 use mathlib.Core.Logic.{_⊎_, _↔_}
-use mathlib.Core.List.{List, map}
+use mathlib.Core.List.{List, [], _∷_, _++_, map}
 use mathlib.Core.Bool.{Bool, true, false}
 use mathlib.Core.Option.{some}
 use lib.ListN.{length, getD, take}
 use lib.IntN.{ℤ, _*ℤ_, natAbs}
-use Rattle.model.specs.Test.{every}
+use Rattle.model.specs.Test.{every, total}
 use Rattle.model.specs.Update.{Tree, Listed, written}
 use Rattle.model.specs.Update.Tree.{cell}
 use Rattle.model.specs.Reply.{Reply, equal, differs, refused, isRefused, Side, left, right, both}
@@ -31,6 +31,9 @@ use Rattle.comparer.specs.Match.{comparedSize, swapping, given, listsRep
 use Rattle.comparer.specs.Entry.{enough, entryReply, wordsReply, sideReply, programsReply, allBits, leftIn, rightIn, inputReply}
 use Rattle.comparer.specs.Explain as Explain
 use Rattle.comparer.specs.Explain.{Chosen, chosen, Explanation, plain, explained, explanation, inputExplanation}
+use Rattle.comparer.specs.Batch as Batch
+use Rattle.comparer.specs.Batch.{Pair, pairs, mostPairs, begun, replyOf, replies, totals, batchText}
+use Rattle.comparer.specs.BatchSteps.{noTotals, turns, looked}
 use Rattle.comparer.specs.Line.{lineOf}
 use Rattle.comparer.specs.ExplainLine.{explanationLine}
 use Rattle.comparer.specs.Told.{Compared, Shared, Agree, Earlier, Told}
@@ -282,3 +285,55 @@ ExplainedCut = (long : Bool) (side : Chosen) (s : List ℕ) → inputExplanation
 -- Known pairs explained, each with its line as docs/FORMAT.md prints it.
 abbrev pub ExplainedRows : Type 0
 ExplainedRows = map (λ (x : ExplainedRow). explanationLine (explanation true allBits (x .side) (x .one) (x .other))) explainedPairs ≡ map (λ (x : ExplainedRow). x .line) explainedPairs
+
+-- Many pairs. The counts that "equal" replies give:
+abbrev pub equalCounts : List Reply → List ℕ
+equalCounts [] = []
+equalCounts (equal n ∷ more) = n ∷ equalCounts more
+equalCounts (differs a e ∷ more) = equalCounts more
+equalCounts (refused s k p ∷ more) = equalCounts more
+
+-- E + D + R is N, the number of replies, and no more than 65,535; of the counts that "equal" replies give, E is the number and C the sum.
+pub record Summed (s : List ℕ) : Type 0 where
+  pub kinds : totals s .equal + totals s .differs + totals s .refused ≡ totals s .pairs
+  pub number : totals s .pairs ≡ length (replies s)
+  pub most : totals s .pairs ≤ 65535
+  pub equals : totals s .equal ≡ length (equalCounts (replies s))
+  pub sum : totals s .elements ≡ total (λ n. n) (equalCounts (replies s))
+
+abbrev pub BatchSummed : Type 0
+BatchSummed = (s : List ℕ) → Summed s
+
+-- The steps, taken over an input, are the definition: the program's turns print the lines of the replies and that of the totals.
+abbrev pub BatchSteps : Type 0
+BatchSteps = (s : List ℕ) → turns mostPairs noTotals s ≡ batchText s
+
+-- two programs as an input of many pairs holds them
+abbrev pub framedPair : List ℕ → List ℕ → List ℕ
+framedPair l r = (length l % 256) ∷ (length l / 256) ∷ (length r % 256) ∷ (length r / 256) ∷ (l ++ r)
+
+-- A pair that stands whole at the start is the first one, and the others are those of what follows it.
+abbrev pub BatchFirst : Type 0
+BatchFirst = (n : ℕ) (l r rest : List ℕ) → length l ≤ 16384 → length r ≤ 16384 → pairs (suc n) (framedPair l r ++ rest) ≡ Batch.whole l r ∷ pairs n rest
+
+-- A pair that is refused by its lengths, or whose bytes are cut, is the last.
+abbrev pub BatchLast : Type 0
+BatchLast = (s : List ℕ) (earlier later : List Pair) (side : Side) (number : ℕ) → begun s ≡ earlier ++ Batch.broken side number ∷ later → later ≡ []
+
+-- What stands behind the bytes that the turns look at changes no pair,
+abbrev pub BatchCut : Type 0
+BatchCut = (s : List ℕ) (n : ℕ) → looked mostPairs s ≤ n → begun (take n s) ≡ begun s
+
+-- and these are at most so many.
+abbrev pub BatchBound : Type 0
+BatchBound = (s : List ℕ) → looked mostPairs s ≤ 65535 * 32772
+
+-- Demand 2 for many pairs: whatever the input holds, each reply that is no refusal is told of two programs in it.
+pub record ToldPair (p : Pair) : Type 1 where
+  pub one : List ℕ
+  pub other : List ℕ
+  pub isPair : p ≡ Batch.whole one other
+  pub told : ToldOf allBits (λ q l. unrolled q ≡ ok l) one other (replyOf p)
+
+abbrev pub Demand2Batch : Type 1
+Demand2Batch = (s : List ℕ) (earlier later : List Pair) (p : Pair) → begun s ≡ earlier ++ p ∷ later → isRefused (replyOf p) ≡ false → ToldPair p

@@ -4,12 +4,14 @@ pub mod Entry
 pub mod Explain
 pub mod Line
 pub mod ExplainLine
+pub mod Batch
 pub mod Told
 pub mod Order
 pub mod Rows
 pub mod Claims
 pub mod Answers
 pub mod ExplainAnswers
+pub mod BatchSteps
 pub mod Matching
 pub mod Writing
 pub mod Headers

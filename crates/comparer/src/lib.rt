@@ -1,4 +1,5 @@
 // Compares two update lists, or two programs: the reply of docs/FORMAT.md. Explains a difference.
+mod batch;
 mod compare;
 mod evaluate;
 mod explanation;
@@ -9,6 +10,8 @@ mod programs;
 pub mod reply;
 mod tables;
 
+pub use batch::Lengths;
+pub use batch::Totals;
 pub use explanation::Answer;
 pub use explanation::Chosen;
 pub use explanation::Explanation;
