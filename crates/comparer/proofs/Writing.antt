@@ -1,4 +1,4 @@
--- Writing a line: one byte, a text, a number, an explanation.
+-- Writing a line: one byte, a text, a number, an explanation, totals.
 use Prim.Native.Nat.{ℕ, zero, suc, _+_, _-_, _*_, _/_, _%_, _≤_, _<_, min}
 use native.Mathlib.Omega.{arith}
 use native.Mathlib.Numerals.{add-one}
@@ -16,10 +16,12 @@ use mir.Val.{SFits}
 use Rattle.model.specs.Reply.{Reply, equal, differs, refused, Side, left, right, both, input}
 use Rattle.unroller.specs.Layout.{padded}
 use Rattle.comparer.specs.Line.{codes, digits, decimal, sideText, spaced, lineOf}
+use Rattle.comparer.specs.Batch.{totalsLine}
 use Rattle.comparer.specs.Explain.{written, starting}
 use Rattle.comparer.specs.ExplainLine.{signed, spacedFirst, answerLine, explanationLine}
 use Rattle.comparer.specs.ExplainAnswers.{answerSays, explanationSays}
 use Rattle.comparer.specs.Writing.{Holds, Adds, tens, AddsNumber, Begins}
+use Rattle.comparer.specs.declared.batch.Totals.{Totals}
 use Rattle.comparer.specs.declared.line.Line.{Line}
 use Rattle.comparer.specs.declared.explanation.Answer.{Answer}
 use Rattle.comparer.specs.declared.explanation.Explanation.{Explanation}
@@ -216,6 +218,57 @@ module _ (empty : Line) (none : Holds empty []) where
         (adds-more y z r (spaced (decimal m)) more d
         (adds-more z v r (spaced (decimal from) ++ spaced (decimal to)) values (adds-more z u v (spaced (decimal from)) (spaced (decimal to)) f g) h))))
         (omega arith) (written-text n m more)
+
+-- a word and a number, and behind them more
+abbrev labelled : List ℕ → ℕ → List ℕ
+labelled word n = word ++ spaced (decimal n)
+
+labelled-length : (word : List ℕ) (n k : ℕ) (more : List ℕ) → length more ≤ k → length (labelled word n ++ more) ≤ length word + (21 + k)
+labelled-length word n k more h =
+    let a = digits-length 20 n in
+    let b = length-append word (spaced (decimal n)) in
+    let d = length-append (labelled word n) more in
+    omega arith
+
+-- the brackets of the text as it is written, and as it is defined
+ten-parts : (a b c d e f g h i j z : List ℕ)
+    → ((a ++ b) ++ ((c ++ d) ++ ((e ++ f) ++ ((g ++ h) ++ (i ++ j))))) ++ z ≡ a ++ b ++ c ++ d ++ e ++ f ++ g ++ h ++ i ++ j ++ z
+ten-parts a b c d e f g h i j z = simp append-assoc
+
+-- the line of the totals
+module _ (t : Totals) where
+  abbrev p5 : List ℕ
+  p5 = labelled (codes " elements") (t .elements)
+
+  abbrev p4 : List ℕ
+  p4 = labelled (codes " refused") (t .refused) ++ p5
+
+  abbrev p3 : List ℕ
+  p3 = labelled (codes " differs") (t .differs) ++ p4
+
+  abbrev p2 : List ℕ
+  p2 = labelled (codes " equal") (t .equal) ++ p3
+
+  pub totals-begin : (empty x y z w r : Line) → Holds empty [] → Adds empty (labelled (codes "pairs") (t .pairs)) x → Adds x (labelled (codes " equal") (t .equal)) y
+      → Adds y (labelled (codes " differs") (t .differs)) z → Adds z (labelled (codes " refused") (t .refused)) w → Adds w p5 r → Begins r (totalsLine t)
+  unfolding totalsLine
+  totals-begin empty x y z w r none a b d e f =
+      begins empty r (labelled (codes "pairs") (t .pairs) ++ p2) _ none
+      (adds-more empty x r (labelled (codes "pairs") (t .pairs)) p2 a (adds-more x y r (labelled (codes " equal") (t .equal)) p3 b
+      (adds-more y z r (labelled (codes " differs") (t .differs)) p4 d (adds-more z w r (labelled (codes " refused") (t .refused)) p5 e f))))
+      short
+      (ten-parts (codes "pairs") (spaced (decimal (t .pairs))) (codes " equal") (spaced (decimal (t .equal))) (codes " differs") (spaced (decimal (t .differs)))
+      (codes " refused") (spaced (decimal (t .refused))) (codes " elements") (spaced (decimal (t .elements))) (0x0A ∷ []))
+    where
+      short : length (labelled (codes "pairs") (t .pairs) ++ p2) < 160
+      short =
+          let a5 = digits-length 20 (t .elements) in
+          let b5 = length-append (codes " elements") (spaced (decimal (t .elements))) in
+          let a4 = labelled-length (codes " refused") (t .refused) 30 p5 (omega arith) in
+          let a3 = labelled-length (codes " differs") (t .differs) 59 p4 (omega arith) in
+          let a2 = labelled-length (codes " equal") (t .equal) 88 p3 (omega arith) in
+          let a1 = labelled-length (codes "pairs") (t .pairs) 115 p2 (omega arith) in
+          omega arith
 
 pub line-ends : (x r : Line) (whole : List ℕ) → Begins x whole → Adds x (0x0A ∷ []) r → Holds r whole
 unfolding Begins Adds

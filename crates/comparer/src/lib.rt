@@ -1,4 +1,4 @@
-// Compares two update lists, or two programs: the reply of docs/FORMAT.md. Explains a difference.
+// Compares two update lists, or two programs: the reply of docs/FORMAT.md. Explains a difference. Counts the replies to many pairs.
 mod batch;
 mod compare;
 mod evaluate;
@@ -10,8 +10,15 @@ mod programs;
 pub mod reply;
 mod tables;
 
+pub use batch::LENGTHS_BYTES;
 pub use batch::Lengths;
+pub use batch::MOST_PAIRS;
 pub use batch::Totals;
+pub use batch::count_reply;
+pub use batch::lengths_reply;
+pub use batch::no_totals;
+pub use batch::pair_lengths;
+pub use batch::pair_whole;
 pub use explanation::Answer;
 pub use explanation::Chosen;
 pub use explanation::Explanation;
@@ -22,7 +29,9 @@ pub use line::LINE_BYTES;
 pub use line::Line;
 pub use line::explanation_line;
 pub use line::line_of;
+pub use line::totals_line;
 pub use lists::compare_lists;
 pub use programs::compare_input;
+pub use programs::compare_pair;
 pub use programs::compare_programs;
 pub use programs::compare_programs_masked;

@@ -1,4 +1,5 @@
-// The lines that the programs print: of a reply, and of an explanation.
+// The lines that the programs print: of a reply, of an explanation, and of the totals over many pairs.
+use crate::batch::Totals;
 use crate::explanation::Answer;
 use crate::explanation::Explanation;
 use crate::reply::Reply;
@@ -6,9 +7,10 @@ use crate::reply::Side;
 use model::numbers::least;
 use model::numbers::size;
 ghost use mathlib.Core.Path.{_≡_};
-ghost use mathlib.Core.List.{_∷_, []};
+ghost use mathlib.Core.List.{_∷_, [], _++_};
 ghost use Prim.Native.Nat.{min};
 ghost use Rattle.comparer.specs.Answers.{sideSays, replySays};
+ghost use Rattle.comparer.specs.Batch.{totalsLine};
 ghost use Rattle.comparer.specs.ExplainAnswers.{explanationSays};
 ghost use Rattle.comparer.specs.ExplainLine.{signed, spacedFirst, explanationLine};
 ghost use Rattle.comparer.specs.Line.{decimal, sideText, spaced, lineOf};
@@ -155,4 +157,28 @@ pub fn explanation_line(explanation: Explanation) -> Line
     ensures { λ r. ⌜ Holds r (explanationLine (explanationSays explanation)) ⌝ }
 {
     put(explanation_words(explanation), 10)
+}
+
+// A word and a number.
+fn labelled(line: Line, s: &[u8], n: usize) -> Line
+    ensures { λ r. ⌜ Adds line (now (s .entry) ++ spaced (decimal n)) r ⌝ }
+{
+    spaced_number(text(line, s), n)
+}
+
+// Without its end.
+fn totals_words(totals: Totals) -> Line
+    ensures { λ r. ⌜ Begins r (totalsLine totals) ⌝ }
+{
+    let pairs = labelled(no_text(), b"pairs", totals.pairs);
+    let equal = labelled(pairs, b" equal", totals.equal);
+    let differs = labelled(equal, b" differs", totals.differs);
+    let refused = labelled(differs, b" refused", totals.refused);
+    labelled(refused, b" elements", totals.elements)
+}
+
+pub fn totals_line(totals: Totals) -> Line
+    ensures { λ r. ⌜ Holds r (totalsLine totals) ⌝ }
+{
+    put(totals_words(totals), 10)
 }

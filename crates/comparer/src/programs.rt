@@ -1,4 +1,5 @@
-// Two programs, or both in one framed input: question 1, then 2 to 20 of each, then 22 to 24.
+// Two programs, both in one framed input, or one of many pairs: question 1, then 2 to 20 of each, then 22 to 24.
+use crate::batch::pair_whole;
 use crate::lists::compared;
 use crate::lists::long_enough;
 use crate::memory::clear_used;
@@ -10,7 +11,7 @@ use model::sizes::MOST_BYTES;
 use unroller::Unrolled;
 use unroller::unroll;
 
-// The mask of the plain entry.
+// The mask of the plain entry, and of many pairs.
 const ALL_BITS: u16 = 65535;
 
 ghost use mathlib.Core.Path.{_≡_};
@@ -20,6 +21,8 @@ ghost use lib.ListN.{length};
 ghost use Rattle.model.specs.Memory.{cleared, listWords, workLeft};
 ghost use Rattle.comparer.specs.Answers.{replySays};
 ghost use Rattle.comparer.specs.Laying.{Lays, Ended};
+ghost use Rattle.model.specs.Reply.{refused, input};
+ghost use Rattle.comparer.specs.BatchSteps.{bodyReply};
 ghost use Rattle.comparer.specs.Entry.{enoughLent, entryReply, programsReply, allBits, inputReply};
 
 // A program's list is laid out, or question and place of its refusal.
@@ -180,4 +183,62 @@ pub fn compare_input(
     let reply = framed_reply(input, left_list, right_list, cells, terms);
     clear_used(left_list, right_list, cells, terms);
     reply
+}
+
+// One of many pairs whose bytes are cut.
+fn cut_reply(
+    left_list: &mut [u32],
+    right_list: &mut [u32],
+    cells: &mut [u32],
+    terms: &mut [u32],
+) -> Reply
+    ensures { λ r. ⌜ (
+        let long = enoughLent (now («left_list» .entry)) (now («right_list» .entry)) (now (cells .entry)) (now (terms .entry)) in
+        (replySays r ≡ entryReply long (refused input 1 0))
+        × (now («left_list» .exit) ≡ workLeft long (now («left_list» .entry)))
+        × (now («right_list» .exit) ≡ workLeft long (now («right_list» .entry)))
+        × (now (cells .exit) ≡ workLeft long (now (cells .entry)))
+        × (now (terms .exit) ≡ workLeft long (now (terms .entry)))
+        ) ⌝ }
+{
+    if !long_enough(left_list.len(), right_list.len(), cells.len(), terms.len()) {
+        return Reply::Refused(Side::Both, 25, 0);
+    }
+    clear(cells);
+    clear(terms);
+    unframed(Reply::Refused(Side::Input, 1, 0), left_list, right_list)
+}
+
+// One of many pairs: its lengths, and the bytes behind them. All bits of the mask are set.
+pub fn compare_pair(
+    body: &[u8],
+    left: usize,
+    right: usize,
+    left_list: &mut [u32],
+    right_list: &mut [u32],
+    cells: &mut [u32],
+    terms: &mut [u32],
+) -> Reply
+    ensures { λ r. ⌜ (
+        let long = enoughLent (now («left_list» .entry)) (now («right_list» .entry)) (now (cells .entry)) (now (terms .entry)) in
+        (replySays r ≡ entryReply long (bodyReply left right (now (body .entry))))
+        × (now («left_list» .exit) ≡ workLeft long (now («left_list» .entry)))
+        × (now («right_list» .exit) ≡ workLeft long (now («right_list» .entry)))
+        × (now (cells .exit) ≡ workLeft long (now (cells .entry)))
+        × (now (terms .exit) ≡ workLeft long (now (terms .entry)))
+        ) ⌝ }
+{
+    if !pair_whole(body.len(), left, right) {
+        return cut_reply(left_list, right_list, cells, terms);
+    }
+    let end = left + right;
+    compare_programs_masked(
+        &body[0..left],
+        &body[left..end],
+        ALL_BITS,
+        left_list,
+        right_list,
+        cells,
+        terms,
+    )
 }
