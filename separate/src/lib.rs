@@ -3,6 +3,7 @@
 //! Two encoded loop programs, or two update lists, go in; a reply comes out, and
 //! on a difference, if asked for, where each side wrote the element.
 
+pub mod batch;
 pub mod compare;
 pub mod entries;
 pub mod explain;
@@ -24,7 +25,7 @@ pub mod work;
 pub use compare::{compare_lists, compare_programs, compare_programs_masked};
 pub use explain::{explain, explain_input, origin_of, stretch, Chosen, Explanation, Origin};
 pub use input::compare_input;
-pub use line::{line_of, line_of_explanation};
+pub use line::{line_of, line_of_explanation, line_of_totals};
 pub use list::check_list;
 pub use read::read_program;
 pub use reply::{Question, Refusal, Reply, Side};

@@ -1,8 +1,10 @@
-//! The line that is printed for a reply or an explanation.
+//! The line that is printed for a reply, an explanation or the totals of a
+//! batch.
 
 use std::fmt;
 use std::io::{self, Write};
 
+use crate::batch::Totals;
 use crate::explain::Explanation;
 use crate::reply::{Reply, Side};
 
@@ -46,6 +48,14 @@ pub fn line_of_explanation(explanation: Explanation) -> Line {
         }
         Explanation::Starting { array, cell } => write!(rest, "starting {array} {cell}"),
         Explanation::Refused { side, number, place } => refused(rest, side, number, place),
+    })
+}
+
+pub fn line_of_totals(totals: Totals) -> Line {
+    let Totals { pairs, equal, differs, refused, elements } = totals;
+    line(|rest| {
+        write!(rest, "pairs {pairs} equal {equal} differs {differs} refused {refused}")?;
+        write!(rest, " elements {elements}")
     })
 }
 
@@ -125,6 +135,20 @@ mod tests {
         let text = format!("written {most} {most} {most} {most}{}", " -32768".repeat(8));
         assert_eq!(line.to_string(), text);
         assert!(line.length < line.bytes.len());
+    }
+
+    #[test]
+    fn the_line_of_totals() {
+        let totals = Totals { pairs: 6, equal: 1, differs: 2, refused: 3, elements: 40 };
+        let line = |totals| line_of_totals(totals).to_string();
+        assert_eq!(line(totals), "pairs 6 equal 1 differs 2 refused 3 elements 40");
+        let most = u64::MAX;
+        let totals =
+            Totals { pairs: most, equal: most, differs: most, refused: most, elements: most };
+        let text =
+            format!("pairs {most} equal {most} differs {most} refused {most} elements {most}");
+        assert_eq!(line(totals), text);
+        assert_eq!(text.len(), 141);
     }
 
     #[test]

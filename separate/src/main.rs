@@ -1,17 +1,20 @@
 //! The command line: see README.md.
 
 use std::collections::BTreeMap;
-use std::io::{self, BufWriter, Read, Write};
+use std::fs::File;
+use std::io::{self, BufReader, BufWriter, Read, Write};
+use std::os::fd::AsFd;
 use std::process::ExitCode;
 
 use separate::compare::ALL;
 use separate::input::{split, INPUT_BYTES};
 use separate::random::{Explanations, ListPairs, Pairs, Records};
 use separate::{
-    entries, line_of, line_of_explanation, notation, stream, Chosen, Refusal, Reply, Work,
+    batch, entries, line_of, line_of_explanation, notation, stream, Chosen, Refusal, Reply, Work,
 };
 
-const USAGE: &str = "usage: separate pair | explain | lines | histogram | list-lines | entry-lines
+const USAGE: &str = "usage: separate pair | explain | batch
+       separate lines | histogram | list-lines | entry-lines
        separate asm [--places] | dis [--places]
        separate random COUNT SEED | random-lists COUNT SEED | random-entries COUNT SEED
        separate random-explanations COUNT SEED";
@@ -25,6 +28,7 @@ fn main() -> ExitCode {
     let outcome = match words.as_deref() {
         Some(["pair"]) => pair(),
         Some(["explain"]) => explain(),
+        Some(["batch"]) => many(),
         Some(["lines"]) => lines(),
         Some(["histogram"]) => histogram(),
         Some(["list-lines"]) => list_lines(),
@@ -87,6 +91,21 @@ fn explain() -> Outcome {
         lines.extend([Chosen::Left, Chosen::Right].map(line));
     }
     output(|out| lines.iter().try_for_each(|line| writeln!(out, "{line}")))
+}
+
+/// The line of each pair and that of the totals. Both ends are plain files:
+/// `Stdin` takes what is not open for reading for an empty input, and `Stdout`
+/// tries once more to write what is left where a write failed.
+fn many() -> Outcome {
+    let input = File::from(io::stdin().as_fd().try_clone_to_owned().map_err(failed)?);
+    let printed = File::from(io::stdout().as_fd().try_clone_to_owned().map_err(failed)?);
+    let mut out = BufWriter::new(printed);
+    let outcome = batch::answer(BufReader::new(input), &mut out).and_then(|_| out.flush());
+    if outcome.is_err() {
+        // Dropping it would write what is left too.
+        drop(out.into_parts());
+    }
+    outcome.map_err(failed)
 }
 
 /// Answers each pair of a stream.

@@ -2,6 +2,7 @@
 
 mod common;
 use common::{frame, l_with, L};
+use std::fs::File;
 use std::io::Write;
 use std::process::{Command, Output, Stdio};
 
@@ -56,12 +57,49 @@ fn explain_prints_one_line_or_three() {
 }
 
 #[test]
+fn batch_prints_a_line_for_each_pair_and_the_totals() {
+    let pair = [&[34, 0, 34, 0][..], &L, &L].concat();
+    let short = [&[34, 0, 34, 0][..], &L, &l_with(&[(18, 0)])].concat();
+    let cut = "refused input 1 0\n";
+    let all = [&pair[..], &short, &pair].concat();
+    let both = "equal 2\ndiffers 1 1\n";
+    for (input, out) in [
+        (Vec::new(), "pairs 0 equal 0 differs 0 refused 0 elements 0\n".to_string()),
+        (all[..144].to_vec(), format!("{both}pairs 2 equal 1 differs 1 refused 0 elements 2\n")),
+        (
+            all[..147].to_vec(),
+            format!("{both}{cut}pairs 3 equal 1 differs 1 refused 1 elements 2\n"),
+        ),
+        (all, format!("{both}equal 2\npairs 3 equal 2 differs 1 refused 0 elements 4\n")),
+    ] {
+        let output = separate(&["batch"], &input);
+        assert_eq!(text(&output.stdout), out);
+        assert!(output.stderr.is_empty());
+        assert_eq!(output.status.code(), Some(0));
+    }
+}
+
+/// Standard input that is a directory, or is open for writing alone.
+#[test]
+fn batch_says_where_a_read_failed() {
+    let directory = File::open("/").unwrap();
+    let written = File::options().write(true).open("/dev/null").unwrap();
+    for input in [directory, written] {
+        let mut command = Command::new(env!("CARGO_BIN_EXE_separate"));
+        let output = command.arg("batch").stdin(input).output().unwrap();
+        assert!(output.stdout.is_empty() && !output.stderr.is_empty());
+        assert_eq!(output.status.code(), Some(2));
+    }
+}
+
+#[test]
 fn wrong_usage() {
-    let wrong: [&[&str]; 12] = [
+    let wrong: [&[&str]; 13] = [
         &[],
         &["pears"],
         &["pair", "x"],
         &["explain", "x"],
+        &["batch", "x"],
         &["random-explanations", "3"],
         &["random"],
         &["random", "3"],
