@@ -8,16 +8,16 @@ use std::process::ExitCode;
 
 use separate::compare::ALL;
 use separate::input::{split, INPUT_BYTES};
-use separate::random::{Explanations, ListPairs, Pairs, Records};
+use separate::random::{Batches, Explanations, ListPairs, Pairs, Records};
 use separate::{
     batch, entries, line_of, line_of_explanation, notation, stream, Chosen, Refusal, Reply, Work,
 };
 
 const USAGE: &str = "usage: separate pair | explain | batch
-       separate lines | histogram | list-lines | entry-lines
+       separate lines | histogram | list-lines | entry-lines | batch-lines
        separate asm [--places] | dis [--places]
        separate random COUNT SEED | random-lists COUNT SEED | random-entries COUNT SEED
-       separate random-explanations COUNT SEED";
+       separate random-explanations COUNT SEED | random-batches COUNT SEED";
 
 /// What goes to standard error before the program ends with status 2.
 type Outcome = Result<(), String>;
@@ -33,6 +33,7 @@ fn main() -> ExitCode {
         Some(["histogram"]) => histogram(),
         Some(["list-lines"]) => list_lines(),
         Some(["entry-lines"]) => entry_lines(),
+        Some(["batch-lines"]) => batch_lines(),
         Some(["asm"]) => asm(),
         Some(["asm", "--places"]) => asm_places(),
         Some(["dis"]) => dis(notation::disassemble),
@@ -41,6 +42,7 @@ fn main() -> ExitCode {
         Some(["random-lists", count, seed]) => random_lists(count, seed),
         Some(["random-entries", count, seed]) => random_entries(count, seed),
         Some(["random-explanations", count, seed]) => random_explanations(count, seed),
+        Some(["random-batches", count, seed]) => random_batches(count, seed),
         _ => Err(USAGE.to_string()),
     };
     match outcome {
@@ -172,6 +174,18 @@ fn entry_lines() -> Outcome {
     })
 }
 
+/// For each batch what `batch` prints for it.
+fn batch_lines() -> Outcome {
+    let bytes = standard_input()?;
+    output(|mut out| {
+        for batch in stream::inputs(&bytes) {
+            let batch = batch.map_err(|_| io::Error::other("the stream is cut"))?;
+            batch::answer(batch, &mut out)?;
+        }
+        Ok(())
+    })
+}
+
 fn number(word: &str) -> Result<u64, String> {
     word.parse().map_err(|_| format!("'{word}' is no number\n{USAGE}"))
 }
@@ -205,6 +219,14 @@ fn random_explanations(count: &str, seed: &str) -> Outcome {
     output(|mut out| {
         let mut records = Explanations::new(seed).take(count as usize);
         records.try_for_each(|record| stream::write_input(&mut out, &record))
+    })
+}
+
+fn random_batches(count: &str, seed: &str) -> Outcome {
+    let (count, seed) = (number(count)?, number(seed)?);
+    output(|mut out| {
+        let mut batches = Batches::new(seed).take(count as usize);
+        batches.try_for_each(|batch| stream::write_input(&mut out, &batch))
     })
 }
 

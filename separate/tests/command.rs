@@ -94,12 +94,14 @@ fn batch_says_where_a_read_failed() {
 
 #[test]
 fn wrong_usage() {
-    let wrong: [&[&str]; 13] = [
+    let wrong: [&[&str]; 15] = [
         &[],
         &["pears"],
         &["pair", "x"],
         &["explain", "x"],
         &["batch", "x"],
+        &["batch-lines", "x"],
+        &["random-batches", "3"],
         &["random-explanations", "3"],
         &["random"],
         &["random", "3"],
@@ -165,8 +167,21 @@ fn entry_records() {
 }
 
 #[test]
+fn random_batches_then_their_lines() {
+    let stream = separate(&["random-batches", "40", "5"], b"").stdout;
+    assert_eq!(stream, separate(&["random-batches", "40", "5"], b"").stdout);
+    let batches = separate::stream::inputs(&stream);
+    let single = batches.map(|batch| separate(&["batch"], batch.unwrap()).stdout);
+    let single: Vec<_> = single.collect();
+    assert_eq!(single.len(), 40);
+    let output = separate(&["batch-lines"], &stream);
+    assert_eq!(output.stdout, single.concat());
+    assert_eq!(output.status.code(), Some(0));
+}
+
+#[test]
 fn cut_streams() {
-    for command in ["lines", "histogram", "list-lines", "entry-lines"] {
+    for command in ["lines", "histogram", "list-lines", "entry-lines", "batch-lines"] {
         let output = separate(&[command], &[9, 0, 0, 0, 1]);
         assert_eq!(output.status.code(), Some(2), "{command}");
         assert!(text(&output.stderr).contains("cut"));

@@ -1,5 +1,7 @@
-//! Random pairs of programs and of lists and random records, the same for the same seed.
+//! Random pairs of programs and of lists, random batches and random records, the
+//! same for the same seed.
 
+mod batches;
 mod changes;
 mod entries;
 mod explanations;
@@ -11,6 +13,7 @@ mod rewrites;
 mod templates;
 mod unwritten;
 
+pub use batches::Batches;
 pub use entries::Records;
 pub use explanations::{Explanations, Masked};
 pub use lists::{ListPairs, Parts};
