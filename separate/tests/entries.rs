@@ -264,6 +264,88 @@ fn lines_of_explanations() {
 }
 
 #[test]
+fn lengths_of_a_pair() {
+    for (lent, numbers) in [
+        (&[][..], "0"),
+        (&[0], "1 2 3 1 0"),
+        (&[0xFF; 2], "1 2 3 1 0"),
+        (&[0xFF; 3], "1 2 3 1 0"),
+        (&[0xFF; 4], "1 2 0 2 0"),
+        (&[1, 64, 0, 0], "1 2 0 2 0"),
+        (&[0, 64, 1, 64, 9], "1 2 1 2 0"),
+        (&[0, 64, 0, 64], "2 16384 16384"),
+        (&[0, 0, 0, 0, 9], "2 0 0"),
+        (&[2, 1, 4, 3, 9, 9], "2 258 772"),
+    ] {
+        assert_eq!(call(39, &[], lent), format!("39 {numbers}"));
+    }
+}
+
+/// Program L beside itself, with these lengths and behind a word of memory.
+fn lent_pair(left: usize, right: usize, bytes: &[u8]) -> Vec<u8> {
+    let lengths = [left, right].map(|length| (length as u64).to_le_bytes());
+    [&[7, 0, 0, 0][..], lengths.as_flattened(), bytes].concat()
+}
+
+#[test]
+fn one_pair_of_many() {
+    let enough = [0, 32_768, 33_000, 4_096, 32_768, 1];
+    let both = [L, L].concat();
+    let more = [&both[..], b"more"].concat();
+    let long = [0; 33_000];
+    for (left, right, bytes, numbers) in [
+        (34, 34, &both[..], "0 2 0"),
+        (34, 34, &more, "0 2 0"),
+        (34, 33, &both, "2 1 3 33 0"),
+        (33, 35, &both, "2 0 3 33 0"),
+        (0, 0, &both, "2 0 3 0 0"),
+        (34, 35, &both, "2 3 1 0 1"),
+        (69, 0, &both, "2 3 1 0 1"),
+        (34, 34, &[], "2 3 1 0 1"),
+        (0, 1, &[], "2 3 1 0 1"),
+        (MOST, 1, &both, "2 3 1 0 1"),
+        (1, MOST, &both, "2 3 1 0 1"),
+        (34, MOST - 33, &both, "2 3 1 0 1"),
+        (MOST, MOST, &both, "2 3 1 0 1"),
+        (16_385, 0, &both, "2 3 1 0 1"),
+        (16_385, 0, &long, "2 0 2 0 0"),
+        (16_384, 16_385, &long, "2 0 4 0 0"),
+        (16_384, 16_617, &long, "2 3 1 0 1"),
+    ] {
+        let line = call(40, &enough, &lent_pair(left, right, bytes));
+        assert_eq!(line, format!("40 {numbers} 0 0 0 0"), "{left} {right} {}", bytes.len());
+    }
+    // 25 comes first, and says too whether the pair is cut. Words 7, and 7 * 3 + 7.
+    let short = [0, 1, 2, 0, 33_000, 0];
+    let sums = |last: usize| format!("40 2 2 25 0 {last} 0 0 0 0");
+    assert_eq!(call(40, &short, &lent_pair(34, 34, &both)[4..]), sums(0));
+    assert_eq!(call(40, &short, &lent_pair(34, 35, &both)[4..]), sums(1));
+    let line = call(40, &[0, 1, 2, 0, 0, 1], &lent_pair(MOST, 1, &both));
+    assert_eq!(line, "40 2 2 25 0 1 7 28 0 0");
+    assert_eq!(call(40, &[0, 33_001], &lent_pair(34, 34, &both)), "40 -");
+    assert_eq!(call(40, &[], &[0; 15]), "40 -");
+    assert_eq!(call(40, &[], &[0; 16]), "40 2 2 25 0 0 0 0 0 0");
+}
+
+#[test]
+fn totals_and_their_line() {
+    let n = |number: usize| (number as u64).to_le_bytes();
+    assert_eq!(call(41, &[9, 1, 2, 3, 4, 0], &n(5)), "41 10 2 2 3 9");
+    assert_eq!(call(41, &[9, 1, 2, 3, 4, 4], &n(5)), "41 10 1 3 3 4");
+    assert_eq!(call(41, &[9, 1, 2, 3, 4, MOST - 1], &n(5)), "41 10 1 2 4 4");
+    let most = format!("41 {MOST} {MOST} {MOST} {MOST} {MOST}");
+    for kind in 0..3 {
+        assert_eq!(call(41, &[MOST, MOST, MOST, MOST, MOST, kind], &n(MOST)), most);
+    }
+    assert_eq!(call(41, &[0, 0, 0, 0, 5], &n(MOST - 4)), format!("41 1 1 0 0 {MOST}"));
+    assert_eq!(call(41, &[0, 0, 0, 0, 5], &n(MOST)[..7]), "41 1 1 0 0 5");
+    let line = |arguments: &[usize]| printed(&call(42, arguments, b""));
+    let text = "pairs 6 equal 1 differs 2 refused 3 elements 40\n";
+    assert_eq!(line(&[6, 1, 2, 3, 40, 9]), (48, text.to_string()));
+    assert_eq!(line(&[MOST; 5]).0, 142);
+}
+
+#[test]
 fn records_that_do_not_fit() {
     assert_eq!(line(&[]), "-");
     assert_eq!(line(&[5; 48]), "-");
@@ -293,6 +375,54 @@ fn every_entry_is_reached_with_and_without_a_no() {
     let all = all.into_iter().chain(["34 -", "35 -", "36 0 0", "36 1", "36 2", "-"]);
     for kind in noes.into_iter().chain(all) {
         assert!(count(kind) >= 5, "{kind} in {counts:?}");
+    }
+}
+
+/// The kind of a record of many pairs: what it asks, and what comes of it.
+fn kind_of_many(record: &[u8]) -> Option<String> {
+    let line = line(record);
+    let words: Vec<_> = line.split(' ').collect();
+    match (words[0], words.get(1..)?) {
+        ("39", ["1", reply @ ..]) => Some(format!("39 no {}", reply.join(" "))),
+        ("39", [kind, ..]) => Some(format!("39 {kind}")),
+        ("40", ["2", side, number, _, last, ..]) => Some(format!("40 {side} {number} {last}")),
+        ("40", [kind, ..]) => Some(format!("40 {kind}")),
+        ("41", after) => {
+            let kind = u64::from_le_bytes(record[41..49].try_into().unwrap()) % 3;
+            let full = after.iter().any(|&total| total == MOST.to_string());
+            Some(format!("41 {kind} {}", if full { "full" } else { "not full" }))
+        }
+        ("42", [length, ..]) => {
+            Some(format!("42 {}0 to {0}9", length.parse::<usize>().unwrap() / 10))
+        }
+        _ => None,
+    }
+}
+
+#[test]
+fn records_of_many_pairs_reach_everything() {
+    let mut counts = BTreeMap::new();
+    for kind in Records::new(5).take(60_000).filter_map(|record| kind_of_many(&record)) {
+        *counts.entry(kind).or_insert(0usize) += 1;
+    }
+    let count = |kind: &str| counts.get(kind).copied().unwrap_or(0);
+    for kind in ["39 0", "39 2", "39 no 2 0 2 0", "39 no 2 1 2 0", "39 no 2 3 1 0", "40 0", "40 1"]
+    {
+        assert!(count(kind) >= 100, "{kind} in {counts:?}");
+    }
+    for kind in ["40 3 1 1", "40 2 25 0", "40 2 25 1", "40 0 3 0", "40 -"] {
+        assert!(count(kind) >= 30, "{kind} in {counts:?}");
+    }
+    for kind in ["40 0 2 0", "40 1 2 0", "40 1 3 0", "40 0 16 0", "40 2 22 0", "40 2 24 0"] {
+        assert!(count(kind) >= 5, "{kind} in {counts:?}");
+    }
+    for kind in 0..3 {
+        for full in ["full", "not full"] {
+            assert!(count(&format!("41 {kind} {full}")) >= 50, "{kind} {full} in {counts:?}");
+        }
+    }
+    for tens in 5..=14 {
+        assert!(count(&format!("42 {tens}0 to {tens}9")) >= 3, "{tens} in {counts:?}");
     }
 }
 

@@ -2,6 +2,7 @@
 //! definition, and the line that a record's call gives. README.md has the
 //! format of records.
 
+mod batches;
 mod explanations;
 mod fields;
 mod grammar;
@@ -144,6 +145,10 @@ impl Line {
             36 => self.origin(arguments, s)?,
             37 => self.explanation_line(arguments, s),
             38 => self.explain_input(arguments, s)?,
+            39 => self.pair_lengths(s),
+            40 => self.compare_pair(arguments, s)?,
+            41 => self.count_reply(arguments, s),
+            42 => self.totals_line(arguments),
             _ => return Err(Unfit),
         }
         Ok(())

@@ -16,11 +16,11 @@ const POOL: usize = 32;
 /// Entries with how often each is called. 0 stands for records that no entry
 /// has.
 #[rustfmt::skip]
-const WEIGHTS: [(u8, usize); 36] = [
+const WEIGHTS: [(u8, usize); 40] = [
     (0, 1), (1, 3), (2, 1), (3, 1), (4, 1), (5, 2), (6, 2), (7, 3), (8, 3), (9, 4),
     (10, 2), (11, 2), (12, 3), (13, 3), (14, 3), (15, 4), (16, 3), (17, 2),
     (18, 12), (19, 12), (20, 6), (21, 5), (22, 6), (23, 6), (24, 1), (25, 2), (26, 2), (30, 8), (31, 3), (32, 3),
-    (33, 3), (34, 3), (35, 2), (36, 3), (37, 3), (38, 3),
+    (33, 3), (34, 3), (35, 2), (36, 3), (37, 3), (38, 3), (39, 3), (40, 5), (41, 3), (42, 2),
 ];
 
 /// Words that give terms of kind 19 the mixes 0, 1, 2 …, so one bucket.
@@ -54,7 +54,10 @@ impl Iterator for Records {
             33 => self.reply(),
             35 => self.stretch(),
             36 => self.origin(),
-            _ => self.explanation_line(),
+            37 => self.explanation_line(),
+            39 => self.pair_lengths(),
+            40 => self.compare_pair(),
+            _ => self.totals(entry),
         };
         record.truncate(RECORD);
         Some(record)
@@ -204,7 +207,7 @@ impl Records {
         let length = self.random.below(120);
         let mut record = self.random.bytes(length);
         if let Some(entry) = record.first_mut() {
-            *entry = *self.random.pick(&[0, 10, 18, 27, 29, 30, 31, 34, 39, 255]);
+            *entry = *self.random.pick(&[0, 10, 18, 27, 29, 30, 31, 34, 40, 43, 255]);
         }
         record
     }
@@ -466,6 +469,89 @@ impl Records {
         let indices = self.random.bytes(bytes);
         record(37, numbers, &indices)
     }
+
+    /// Nothing, a part of both lengths, or both and more.
+    fn pair_lengths(&mut self) -> Vec<u8> {
+        let mut bytes = stated(&mut self.random).map(u16::to_le_bytes).concat();
+        match self.random.below(10) {
+            0 => bytes.clear(),
+            1..=3 => bytes.truncate(1 + self.random.below(3)),
+            4..=6 => bytes.extend(self.soup()),
+            _ => {}
+        }
+        record(39, [0; 6], &bytes)
+    }
+
+    /// Two programs behind lengths, which are true in most cases, with bytes
+    /// behind them or some missing.
+    fn compare_pair(&mut self) -> Vec<u8> {
+        let (mut left, mut right) = self.programs();
+        if self.random.chance(8) {
+            let long = if self.random.chance(40) { &mut left } else { &mut right };
+            long.resize(PROGRAM_BYTES - 1 + self.random.below(4), 0);
+        }
+        let mut bytes = [&left[..], &right].concat();
+        let stated = self.lengths_of([left.len(), right.len()], bytes.len());
+        self.damage(&mut bytes);
+        match self.random.below(8) {
+            0 => bytes.extend(self.soup()),
+            1 => bytes.truncate(self.number(bytes.len())),
+            _ => {}
+        }
+        let [one, other, cells, terms] = lengths(&mut self.random, 6);
+        let garbage = any_words(&mut self.random);
+        let stated = stated.map(|length| (length as u64).to_le_bytes());
+        let mut lent = [&words(&garbage)[..], stated.as_flattened(), &bytes].concat();
+        if self.random.chance(2) {
+            lent.truncate(4 * garbage.len() + self.random.below(17));
+        }
+        record(40, [0, one, other, cells, terms, garbage.len()], &lent)
+    }
+
+    /// These lengths; one less or more; any numbers; or such whose sum has more
+    /// than 64 bits.
+    fn lengths_of(&mut self, mut stated: [usize; 2], length: usize) -> [usize; 2] {
+        let most = usize::MAX;
+        match self.random.below(10) {
+            0 | 1 => {
+                let one = &mut stated[self.random.below(2)];
+                *one = if self.random.chance(50) { *one + 1 } else { one.saturating_sub(1) };
+                stated
+            }
+            2 => stated.map(|_| self.number(length)),
+            3 => *self.random.pick(&[[most, 1], [1, most], [most - 33, 34], [1 << 63; 2]]),
+            _ => stated,
+        }
+    }
+
+    /// Totals and, to count, a number for the reply.
+    fn totals(&mut self, entry: u8) -> Vec<u8> {
+        let arguments = std::array::from_fn(|_| total(&mut self.random));
+        let count = (total(&mut self.random) as u64).to_le_bytes();
+        record(entry, arguments, if entry == 41 { &count } else { &[] })
+    }
+}
+
+/// One that can't grow, or hardly; one at which a digit is added; or any.
+fn total(random: &mut Random) -> usize {
+    match random.below(5) {
+        0 => usize::MAX - random.below(3),
+        1 => 10usize.pow(random.below(20) as u32) - random.below(2),
+        2 => random.draw() as usize,
+        3 => random.below(10),
+        _ => random.below(70_000),
+    }
+}
+
+/// Numbers of two lengths of a pair in a batch, mostly such as they may be.
+fn stated(random: &mut Random) -> [u16; 2] {
+    let limits = [0, 1, 34, 255, 256, 16_383, 16_384];
+    let beyond = [16_385, 16_640, 32_767, 32_768, 65_535];
+    [(); 2].map(|()| match random.below(10) {
+        0..=6 => *random.pick(&limits),
+        7 | 8 => *random.pick(&beyond),
+        _ => random.draw() as u16,
+    })
 }
 
 /// The words of each memory of a compare, each of them odd in so many of a
