@@ -110,7 +110,7 @@ fn of_programs(
     say_sums(left_list, right_list, cells, terms);
 }
 
-fn say_sums(left_list: &[u32], right_list: &[u32], cells: &[u32], terms: &[u32]) {
+pub(crate) fn say_sums(left_list: &[u32], right_list: &[u32], cells: &[u32], terms: &[u32]) {
     say_sum(left_list);
     say_sum(right_list);
     say_sum(cells);

@@ -1,5 +1,6 @@
 // Reads a stream of records (separate/README.md, "Streams") from standard input. Each names a public entry of the reader, the store,
 // the unroller or the comparer and has arguments for it; the line of each is the entry's number and every number of its answer.
+mod batches;
 mod cursor;
 mod explanations;
 mod grammar;

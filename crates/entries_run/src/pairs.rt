@@ -1,4 +1,6 @@
-// The comparer's entries over two programs, over framed input, and over a reply; those that explain are in `explanations`.
+// The comparer's entries over two programs, over framed input, and over a reply; those that explain are in `explanations`, those of
+// many pairs in `batches`.
+use crate::batches;
 use crate::explanations;
 use crate::memory::fill;
 use crate::memory::say_sum;
@@ -29,9 +31,22 @@ pub(crate) fn called(entry: usize, x: Args, s: &[u8]) {
         38 => {
             compared(entry, x, s);
         }
-        _ => {
-            explanations::called(entry, x, s);
+        40 => {
+            compared(entry, x, s);
         }
+        _ => {
+            others(entry, x, s);
+        }
+    }
+}
+
+fn others(entry: usize, x: Args, s: &[u8]) {
+    if entry < 39 {
+        explanations::called(entry, x, s);
+    } else if entry < 43 {
+        batches::called(entry, x, s);
+    } else {
+        refused();
     }
 }
 
@@ -112,6 +127,10 @@ fn entered(
     cells: &mut [u32],
     terms: &mut [u32],
 ) {
+    if entry == 40 {
+        batches::entered(s, left_list, right_list, cells, terms);
+        return;
+    }
     if entry >= 34 {
         explanations::entered(entry, n, s, left_list, right_list, cells, terms);
         return;
@@ -146,7 +165,7 @@ fn reply(
     comparer::compare_programs(&s[0..n], &s[n..], left_list, right_list, cells, terms)
 }
 
-fn say_reply(reply: Reply) {
+pub(crate) fn say_reply(reply: Reply) {
     match reply {
         Reply::Equal(n) => {
             say(0);
