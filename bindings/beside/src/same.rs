@@ -78,7 +78,7 @@ fn side(side: separate::Side) -> Side {
     }
 }
 
-fn reply(reply: separate::Reply) -> Reply {
+pub(crate) fn reply(reply: separate::Reply) -> Reply {
     match reply {
         separate::Reply::Equal { count } => Reply::Equal(count),
         separate::Reply::Differs { array, cell } => Reply::Differs(array, cell),

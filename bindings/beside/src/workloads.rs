@@ -1,5 +1,6 @@
 //! The pairs that are timed: programs in the notation of `separate`, and those of the growth tables.
 
+use separate::limits::PROGRAM_BYTES;
 use separate::notation::assemble;
 use separate::random::Pairs;
 use separate::{Reply, Work};
@@ -157,6 +158,21 @@ fn terms(count: i32, backwards: bool) -> String {
 fn mixed(count: usize, seed: u64) -> Workload {
     let pairs = Pairs::new(seed).filter_map(|input| split(&input)).take(count);
     Workload { name: format!("{count} mixed pairs"), pairs: pairs.collect() }
+}
+
+/// As many mixed pairs without those that have a program too long for a batch, which would end it.
+pub fn batched(count: usize, seed: u64) -> Workload {
+    let fits = |pair: &Pair| pair.left.len().max(pair.right.len()) <= PROGRAM_BYTES;
+    let pairs = Pairs::new(seed).filter_map(|input| split(&input)).filter(fits).take(count);
+    Workload { name: format!("{count} mixed pairs"), pairs: pairs.collect() }
+}
+
+/// The pairs as the program `batch` reads them.
+pub fn batch_of(pairs: &[Pair]) -> Vec<u8> {
+    let length = |program: &[u8]| u16::try_from(program.len()).expect("16 bits").to_le_bytes();
+    let bytes =
+        |Pair { left, right }: &Pair| [&length(left)[..], &length(right), left, right].concat();
+    pairs.iter().flat_map(bytes).collect()
 }
 
 /// The two programs of a framed input.

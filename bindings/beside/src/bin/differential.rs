@@ -1,15 +1,17 @@
 //! differential PAIRS LISTS SEED: so many random program pairs, as many that mostly differ, and so many list pairs through the
 //! static library and through the separately written checker; each program pair is explained for both sides. Work memory is
-//! full of garbage before each call. Ends with status 1 at the first difference, whose inputs it saves (difference.left,
-//! difference.right).
+//! full of garbage before each call. Then a fifth as many batches of pairs, each as it is printed. Ends with status 1 at the
+//! first difference, whose inputs it saves (difference.left, difference.right or difference.batch).
 
 use std::collections::BTreeMap;
 use std::process::ExitCode;
 
+use beside::many::printed;
 use beside::same::{Beside, Difference, Ours, Separate};
 use beside::workloads::{split, Pair};
-use separate::random::{Explanations, ListPairs, Masked, Pairs, Random};
-use tengmua::{Chosen, Explanation, Refusal, Reply};
+use separate::batch::{answer, pairs};
+use separate::random::{Batches, Explanations, ListPairs, Masked, Pairs, Random};
+use tengmua::{Chosen, Explanation, Refusal, Reply, Work, ALL};
 
 /// A kind of answer: its question where it is refused, otherwise 0 and a word.
 type Kind = (u8, &'static str);
@@ -79,7 +81,7 @@ impl Test {
                 Ok([reply, self.beside.unroll(&left)?, self.beside.unroll(&right)?])
             });
             let [reply, one, other] = outcome.map_err(|difference| {
-                save(&left, &right);
+                save_pair(&left, &right);
                 format!("pair {number}, mask {mask:#x}: {difference}")
             })?;
             compared.add(kind_of(reply));
@@ -117,7 +119,7 @@ impl Test {
         for chosen in [Chosen::Left, Chosen::Right] {
             let outcome = self.beside.explain(left, right, mask, chosen);
             let explanation = outcome.map_err(|difference| {
-                save(left, right);
+                save_pair(left, right);
                 format!("pair {number}, mask {mask:#x}, explained for {chosen:?}: {difference}")
             })?;
             explained.add(kind_of_explanation(explanation));
@@ -137,7 +139,7 @@ impl Test {
                 Ok([reply, self.beside.check(&left)?, self.beside.check(&right)?])
             });
             let [reply, one, other] = outcome.map_err(|difference| {
-                save(&bytes(&left), &bytes(&right));
+                save_pair(&bytes(&left), &bytes(&right));
                 format!("list pair {number}, mask {:#x}: {difference}", pair.mask)
             })?;
             compared.add(kind_of(reply));
@@ -158,6 +160,29 @@ impl Test {
     }
 }
 
+/// Batches of any framing: each whole pair through the library, and all that is printed beside what the other prints.
+fn batches(count: usize, seed: u64) -> Result<(), Difference> {
+    let mut work = Work::default();
+    let (mut compared, mut whole) = (Histogram::default(), 0);
+    for (number, batch) in Batches::new(seed).take(count).enumerate() {
+        let ours = printed(&batch, |left, right| {
+            let reply = work.programs(left, right, ALL);
+            compared.add(kind_of(reply));
+            reply
+        });
+        whole += pairs(&batch).filter(Result::is_ok).count();
+        let mut theirs = Vec::new();
+        answer(&batch[..], &mut theirs).expect("memory is read and written");
+        if ours.as_bytes() != theirs {
+            save(&[("difference.batch", &batch)]);
+            let theirs = String::from_utf8_lossy(&theirs);
+            return Err(format!("batch {number}: ours: {ours}; separate: {theirs}"));
+        }
+    }
+    println!("{count} batches, seed {seed}: the same lines and totals");
+    compared.print("compare_programs", whole)
+}
+
 /// The two programs of an input. One that is badly framed is a program as it stands, beside an empty one.
 fn whole(input: &[u8]) -> Pair {
     split(input).unwrap_or_else(|| Pair { left: input.to_vec(), right: Vec::new() })
@@ -167,8 +192,12 @@ fn bytes(words: &[u32]) -> Vec<u8> {
     words.iter().flat_map(|word| word.to_le_bytes()).collect()
 }
 
-fn save(left: &[u8], right: &[u8]) {
-    for (name, bytes) in [("difference.left", left), ("difference.right", right)] {
+fn save_pair(left: &[u8], right: &[u8]) {
+    save(&[("difference.left", left), ("difference.right", right)]);
+}
+
+fn save(files: &[(&str, &[u8])]) {
+    for (name, bytes) in files {
         if let Err(error) = std::fs::write(name, bytes) {
             eprintln!("{name}: {error}");
         }
@@ -186,7 +215,8 @@ fn main() -> ExitCode {
     let outcome = test
         .programs(pairs as usize, seed)
         .and_then(|()| test.explanations(pairs as usize, seed))
-        .and_then(|()| test.lists(lists as usize, seed));
+        .and_then(|()| test.lists(lists as usize, seed))
+        .and_then(|()| batches(pairs.div_ceil(5) as usize, seed));
     match outcome {
         Ok(()) => ExitCode::SUCCESS,
         Err(difference) => {
