@@ -1,17 +1,20 @@
-"""Prints the proved reply for two loop programs; HELP says how it is called. `tengmua` starts it.
+"""Prints the proved reply for two loop programs, or for many pairs; HELP says how it is called. `tengmua` starts it.
 
 A reply is written only where both programs were read whole and `pair` gave exactly one whole line, or `explain` exactly those of
-an explained reply; all of it is written at once. Everything else is a line on standard error and status 3. `pair` and `explain`
-are run from private copies whose names hold the digest of the sources that they were proved from and the digest of their own
-bytes, so neither an old binary nor a damaged one answers.
+an explained reply; all of it is written at once. Of many pairs each line is written as `batch` gives it, and the last one, with
+the totals, only where `batch` was handed all pairs and ended well, and the totals are those of the lines. Everything else is a line
+on standard error and status 3. The programs are run from private copies whose names hold the digest of the sources that they were
+proved from and the digest of their own bytes, so neither an old binary nor a damaged one answers.
 """
 import codecs
 import contextlib
 import fcntl
+import functools
 import hashlib
 import os
 import re
 import select
+import selectors
 import shutil
 import signal
 import stat
@@ -26,6 +29,13 @@ tengmua: do two loop programs leave the same values?
   tengmua [--explain] [--places] [--bytes] [--unproved] [--] LEFT RIGHT
   tengmua [--explain] [--places] [--unproved] -
                                 a framed pair on standard input: the left's length in two bytes, the left, the right
+  tengmua --batch [--bytes] [--unproved] [--part K/N] [--] LEFT RIGHT [LEFT RIGHT ...]
+  tengmua --batch [--bytes] [--unproved] [--part K/N] [--] DIRECTORY
+                                many pairs: a line for each, and a last line with totals
+  tengmua --batch [--unproved] -
+                                pairs on standard input, one after another: the lengths of the left and of the right, two bytes
+                                each, the left, the right
+  tengmua --totals [--] FILE... adds up the last lines of runs with --batch, whose output stands in these files
   tengmua --question N          what question N (1 to 27, without 21) asks, and what to do about a refusal
   tengmua --help
 
@@ -63,6 +73,20 @@ reply: on `differs` the element with its subscripts, on `refused` the question a
   --unproved      ask the separately written program, which is not proved but is built in seconds; each line on standard error
                   says so
 
+With --batch each pair has its line, in order. The last line has the totals, C of them the compared elements of all equal pairs:
+
+  pairs N equal E differs D refused R elements C
+
+Status 0: all pairs are equal; 1: some differ and none is refused; 2: some are refused; 3: there is no last line, so not all was
+compared, and standard error says why. Standard error also names each pair that is not equal. A run takes at most 65,535 pairs. A
+program of more than 16,384 bytes is refused and ends it, so does a stream that is cut; standard error says what was not compared.
+
+  DIRECTORY       each file below it, at any depth, is NAME.left or NAME.left.EXT, or NAME.right or NAME.right.EXT; EXT has no dot.
+                  Each NAME has one of the left and one of the right in the same folder. Anything else there is a failure, before
+                  anything is compared. The order is that of the folders' names and then of NAME, by their bytes
+  --part K/N      the K-th of N parts of the pairs, which follow one another: the lines of all parts in order are those of one run
+  --totals        each FILE is the whole output of a run; the sum of the last lines is printed, with the status that it has
+
 The first call proves and builds what is missing, which takes some minutes.
 
   $ ./tengmua examples/jacobi.txt examples/jacobi-tiled.txt
@@ -73,12 +97,18 @@ The first call proves and builds what is missing, which takes some minutes.
   differs 0 2
   left: bytes 78 to before 90, i = 1, j = 2: A[j] = B[j]
   right: bytes 112 to before 124, i = 5, j = 1: A[i - 2*j - 1] = B[i - 2*j - 1]
+  $ ./tengmua --batch examples/copy.txt examples/copy-reversed.alp examples/copy.txt examples/copy-short.txt
+  equal 2
+  differs 1 1
+  pairs 2 equal 1 differs 1 refused 0 elements 2
 """
 
 ROOT = os.path.dirname(os.path.dirname(os.path.realpath(__file__)))
 KEPT = os.path.join(ROOT, 'target', 'tengmua')
 PROGRAM = 16384  # bytes of the longest program
 FRAMED = 32771  # bytes of standard input that decide the reply
+PAIRS = 65535  # the most pairs that `batch` takes
+LINE = 160  # bytes that no line of `batch` exceeds
 STATEMENT = 1  # the code byte of a statement
 OUT = 1  # the byte of the role of arrays in which an element that a side does not write is a difference
 LOCAL = 3  # the byte of the role of arrays that are not compared
@@ -95,8 +125,16 @@ EXPLAINED = re.compile(rb'differs %s %s\n%s%s' % (NUMBER, NUMBER, ORIGIN, ORIGIN
 PLACED = re.compile(r'^ *(.*?) *# (?:end )?at ([0-9]+)$', re.MULTILINE)  # a line of `separate dis --places`
 SIDES = ('left', 'right')
 STATUS = {b'equal': 0, b'differs': 1, b'refused': 2}
+# The replies behind which `batch` takes no further pair: the stream is cut, or a stated length is above its limit.
+ENDING = re.compile(rb'refused (?:input 1|(?:left|right) 2) 0\n')
+PART = re.compile('([0-9]{1,9})/([0-9]{1,9})')
+SIDED = re.compile(rb'(.+)\.(left|right)(?:\.[^.]+)?', re.DOTALL)  # the name of a file of a pair: NAME, side
+TWICE_SIDED = re.compile(rb'.+\.(?:left|right)\.(?:left|right)', re.DOTALL)  # the last word may be the side or EXT
+OPTIONS = ('--help', '--question', '--explain', '--places', '--bytes', '--unproved', '--batch', '--part', '--totals')
+FORMS = (('--totals', '--totals FILE...'), ('--batch', '--batch DIRECTORY'))
 SIGNALS = (signal.SIGINT, signal.SIGTERM, signal.SIGHUP)
 TELL_EVERY = 20  # seconds between lines that say how far a build is
+SHOW_EVERY = 0.1  # seconds between two states of the line that says how far a run is
 GRACE = 3  # seconds that a build has to end before it is killed
 
 mark = b''  # what each line on standard error begins with
@@ -127,6 +165,18 @@ def held_signals():
             interrupt(held.came)
 
 
+@contextlib.contextmanager
+def open_signals():
+    """Where signals are held, lets them come for a while."""
+    held.depth -= 1
+    try:
+        if held.came is not None:
+            interrupt(held.came)
+        yield
+    finally:
+        held.depth += 1
+
+
 def interrupt(number):
     for each in SIGNALS:
         signal.signal(each, signal.SIG_IGN)
@@ -136,7 +186,32 @@ def interrupt(number):
 # ---- what is said
 
 
+class progress:
+    """The line on a terminal that says how far a run is: its width if it stands there, and when it was written."""
+    width = 0
+    at = 0.0
+
+
+def show_progress(message):
+    """Rewrites the line in place, where standard error is a terminal, and not too often."""
+    now = time.monotonic()
+    if now - progress.at >= SHOW_EVERY and os.isatty(2):
+        wipe_progress()
+        line = mark + b'tengmua: ' + message.encode()
+        progress.width, progress.at = len(line), now
+        with contextlib.suppress(OSError):
+            os.write(2, line)
+
+
+def wipe_progress():
+    if progress.width:
+        with contextlib.suppress(OSError):
+            os.write(2, b'\r' + b' ' * progress.width + b'\r')
+        progress.width = 0
+
+
 def tell(line):
+    wipe_progress()
     with contextlib.suppress(OSError):
         os.write(2, mark + line + b'\n')
 
@@ -154,6 +229,8 @@ def shown(name):
 
 
 def write_out(data):
+    if progress.width and os.isatty(1):
+        wipe_progress()
     try:
         if os.write(1, data) == len(data):
             return
@@ -195,7 +272,7 @@ def read_file(name, as_bytes, pipes):
             state = os.fstat(fd)
             if stat.S_ISFIFO(state.st_mode) or stat.S_ISSOCK(state.st_mode) or os.isatty(fd):
                 if (state.st_dev, state.st_ino) in pipes:
-                    raise Failure(f'{shown(name)}: the same pipe as the left program, and it can be read only once')
+                    raise Failure(f'{shown(name)}: the same pipe as a file before it, and it can be read only once')
                 pipes.add((state.st_dev, state.st_ino))
             data = read_most(fd, PROGRAM + 1)
             if not as_bytes and may_be_text(data):
@@ -328,8 +405,9 @@ class Separate:
         return os.path.join(folder, 'release', 'separate')
 
 
+@functools.lru_cache(maxsize=None)
 def program(kind):
-    """The path of a binary that was made from the sources as they are."""
+    """The path of a binary that was made from the sources as they are; this is asked once."""
     sources = kind.sources()
     path = kept(kind, sources)
     if path is None:
@@ -479,6 +557,15 @@ def assemble(file):
     if done.returncode != 0:
         raise Failure(f'{shown(file.name)}: {message_of(done)}')
     file.bytes = done.stdout[:PROGRAM + 1]
+
+
+def read_pair(names, as_bytes, pipes):
+    """Both files of a pair, with the bytes of their programs."""
+    files = [read_file(name, as_bytes, pipes) for name in names]
+    for file in files:
+        if file.text is not None:
+            assemble(file)
+    return files
 
 
 def framed(left, right):
@@ -698,6 +785,325 @@ def tell_question(word):
     write_out(f'{number}. {question}\n\nSide and place: {where}\nAsked: {when}\nWhat to do: {what}\n'.encode())
 
 
+# ---- many pairs
+
+
+class Tally:
+    """The lines of a run of `batch`, counted as they come, up to the last one, which must say what was counted."""
+
+    def __init__(self, who):
+        self.who = who  # what a message begins with
+        self.counts = dict.fromkeys(STATUS, 0)
+        self.elements = 0
+        self.ending = None  # the reply that ended the run
+        self.last = None
+        self.rest = b''  # of a line that is not whole
+
+    def pairs(self):
+        return sum(self.counts.values())
+
+    def totals(self):
+        """The last line."""
+        return b'pairs %d equal %d differs %d refused %d elements %d\n' % (self.pairs(), *self.counts.values(), self.elements)
+
+    def status(self):
+        return max(STATUS[kind] for kind, count in self.counts.items() if count)
+
+    def add(self, other):
+        for kind, count in other.counts.items():
+            self.counts[kind] += count
+        self.elements += other.elements
+
+    def take(self, data):
+        """Gives the line of each reply that these bytes complete, once it is counted."""
+        *lines, self.rest = (self.rest + data).split(b'\n')
+        for line in lines:
+            if self.is_reply(line + b'\n'):
+                yield line + b'\n'
+        if len(self.rest) > LINE:
+            self.fail('is too long')
+
+    def is_reply(self, line):
+        """Counts a line that may stand here. One that is no reply is the last."""
+        found = REPLY.fullmatch(line) if len(line) <= LINE else None
+        if self.last is not None:
+            self.fail('stands behind the last one')
+        if found is None and line != self.totals():
+            self.fail('is neither a reply nor the totals of the lines before it')
+        if found is None:
+            self.last = line
+            return False
+        if self.ending is not None or self.pairs() == PAIRS:
+            self.fail('stands behind a reply that ends the run')
+        self.counts[line.split()[0]] += 1
+        self.elements += int(found.group(1) or 0)
+        self.ending = line if ENDING.fullmatch(line) else None
+        return True
+
+    def fail(self, why):
+        raise Failure(f'{self.who}: line {self.pairs() + (self.last is not None) + 1} {why}')
+
+    def end(self):
+        """Asks whether the last line is there, when nothing more comes."""
+        if self.rest:
+            self.fail('has no end')
+        if self.last is None:
+            raise Failure(f'{self.who}: it ends without totals, behind {self.pairs()} lines')
+
+
+def run_in_file(name, seen):
+    """Counts a run whose output stands in a file. `seen` holds the identities of the files before it."""
+    tally = Tally(shown(name))
+    try:
+        fd = os.open(name, os.O_RDONLY | os.O_CLOEXEC | os.O_NOCTTY)
+        try:
+            state = os.fstat(fd)
+            if (state.st_dev, state.st_ino) in seen:
+                raise Failure(f'{shown(name)}: the same file as one before it')
+            seen.add((state.st_dev, state.st_ino))
+            for data in iter(lambda: os.read(fd, 65536), b''):
+                for _ in tally.take(data):
+                    pass
+        finally:
+            os.close(fd)
+    except OSError as error:
+        raise Failure(f'{shown(name)}: {error.strerror}') from None
+    tally.end()
+    if tally.pairs() == 0:
+        raise Failure(f'{shown(name)}: no pair was compared')
+    return tally
+
+
+def add_totals(names):
+    """Writes the sum of the last lines of runs; gives its status."""
+    tally, seen = Tally('the sum'), set()
+    for name in names:
+        tally.add(run_in_file(name, seen))
+    write_out(tally.totals())
+    return tally.status()
+
+
+def pairs_below(folder):
+    """The names of both files of each pair in a release. Every file below the folder belongs to a pair, or there is a failure."""
+    found, todo = {}, [os.fsencode(folder)]
+    try:
+        while todo:
+            at = todo.pop()
+            for entry in sorted(os.scandir(at), key=lambda entry: entry.name):
+                if entry.is_dir(follow_symlinks=False):
+                    todo.append(entry.path)
+                else:
+                    add_file(entry, at, found)
+    except OSError as error:
+        raise Failure(f'{shown(error.filename or at)}: {error.strerror}') from None
+    if not found:
+        raise Failure(f'{shown(folder)}: there is no pair in it')
+    return [both_sides(found[key]) for key in sorted(found)]
+
+
+def add_file(entry, folder, found):
+    """Adds a file to those that were found, by folder and NAME and then by side."""
+    if entry.is_dir():
+        raise Failure(f'{shown(entry.path)}: a link to a directory')
+    if not entry.is_file():
+        raise Failure(f'{shown(entry.path)}: neither a file nor a directory')
+    words = SIDED.fullmatch(entry.name)
+    if words is None or TWICE_SIDED.fullmatch(entry.name):
+        raise Failure(f'{shown(entry.path)}: its name is neither NAME.left nor NAME.right, with or without .EXT')
+    name, side = words.groups()
+    sides = found.setdefault((folder, name), {})
+    if side in sides:
+        raise Failure(f'{shown(entry.path)}: {shown(sides[side])} is the {side.decode()} of the same pair')
+    sides[side] = entry.path
+
+
+def both_sides(sides):
+    """The names of the files of both sides."""
+    for side, other in ((b'left', b'right'), (b'right', b'left')):
+        if side not in sides:
+            raise Failure(f'{shown(sides[other])}: the {side.decode()} of this pair is not there')
+    return sides[b'left'], sides[b'right']
+
+
+def pairs_of(names):
+    """The names of both files of each pair, of a folder or of files."""
+    if len(names) == 1:
+        return pairs_below(names[0])
+    for name in names:
+        if os.path.isdir(name):
+            raise Failure(f'{shown(name)}: a directory among files')
+    return list(zip(names[::2], names[1::2]))
+
+
+def part_of(pairs, part):
+    """The pairs that a run takes, and how many stand before them."""
+    found = PART.fullmatch('1/1' if part is None else part)
+    number, parts = map(int, found.groups()) if found else (0, 0)
+    if not 1 <= number <= parts:
+        raise Failure(f'--part {shown(part)}: K/N is asked for, with K from 1 to N')
+    if parts > len(pairs):
+        raise Failure(f'--part {part}: there are {len(pairs)} pairs, and no part may be empty')
+    first, behind = (k * len(pairs) // parts for k in (number - 1, number))
+    if behind - first > PAIRS:
+        fewest = -(-len(pairs) // PAIRS)
+        raise Failure(f'{behind - first} pairs, and a run takes at most {PAIRS}: take them in parts, '
+                      f'--part 1/{fewest} to --part {fewest}/{fewest}')
+    return pairs[first:behind], first
+
+
+class Frames:
+    """Pairs as `batch` reads them, each taken from its files when its turn comes. A program that is too long ends the run."""
+
+    def __init__(self, pairs, as_bytes):
+        self.pairs, self.as_bytes = pairs, as_bytes
+        self.pipes = set()
+        self.count = 0  # pairs that were read
+        self.ending = None  # the reply to the last of them, if it ends the run
+
+    def next(self):
+        """The bytes of the next pair; none when all are read."""
+        if self.ending is not None or self.count == len(self.pairs):
+            return b''
+        programs = [file.bytes for file in read_pair(self.pairs[self.count], self.as_bytes, self.pipes)]
+        self.count += 1
+        for side, data in zip(SIDES, programs):
+            if len(data) > PROGRAM and self.ending is None:
+                self.ending = b'refused %s 2 0\n' % side.encode()
+        return struct.pack('<HH', *map(len, programs)) + b''.join(programs)
+
+    def may_have(self, count, ending):
+        """Whether so many lines may have come, the last of them ending the run or not."""
+        return count <= self.count and ending == (self.ending if count == self.count else None)
+
+
+class Batch:
+    """A run of `batch`. Each of its pipes is served when it is ready, so that neither end waits for the other for ever."""
+
+    def __init__(self, child, frames, before):
+        self.child = child
+        self.frames = frames  # none where it reads standard input itself
+        self.before = before  # so many pairs stand before the first
+        self.tally = Tally('no last line from batch')
+        self.unwritten = b''
+        self.is_whole = frames is None  # whether all was handed over
+        self.errors = b''
+        self.ready = selectors.DefaultSelector()
+        self.ready.register(child.stdout, selectors.EVENT_READ, self.read)
+        self.ready.register(child.stderr, selectors.EVENT_READ, self.read_errors)
+        if child.stdin is not None:
+            os.set_blocking(child.stdin.fileno(), False)
+            self.ready.register(child.stdin, selectors.EVENT_WRITE, self.write)
+
+    def follow(self):
+        """Hands over the pairs and passes on the lines, until all pipes are closed."""
+        while self.ready.get_map():
+            for key, _ in self.ready.select(SHOW_EVERY if os.isatty(2) else None):
+                key.data(key.fileobj)
+            of_all = '' if self.frames is None else f' of {len(self.frames.pairs)}'
+            show_progress(f'{self.tally.pairs()}{of_all} pairs')
+
+    def close(self, pipe):
+        self.ready.unregister(pipe)
+        pipe.close()
+
+    def write(self, pipe):
+        if not self.unwritten:
+            self.unwritten = self.frames.next()
+            self.is_whole = not self.unwritten
+        try:
+            self.unwritten = self.unwritten[os.write(pipe.fileno(), self.unwritten):]
+        except BlockingIOError:
+            return
+        except BrokenPipeError:
+            self.close(pipe)
+            return
+        if self.is_whole:
+            self.close(pipe)
+
+    def read(self, pipe):
+        data = os.read(pipe.fileno(), 65536)
+        if not data:
+            self.close(pipe)
+        for line in self.tally.take(data):
+            if self.frames is not None and not self.frames.may_have(self.tally.pairs(), self.tally.ending):
+                raise Failure(f'{self.tally.who}: line {self.tally.pairs()} is no reply to a pair that was handed over')
+            write_out(line)
+            if not line.startswith(b'equal '):
+                self.name_pair(line)
+
+    def read_errors(self, pipe):
+        data = os.read(pipe.fileno(), 65536)
+        if not data:
+            self.close(pipe)
+        self.errors = (self.errors + data)[:1024]
+
+    def name_pair(self, line):
+        """Says which pair is not equal."""
+        number = self.tally.pairs()
+        names = '' if self.frames is None else ' '.join(map(shown, self.frames.pairs[number - 1])) + ': '
+        say(f'pair {self.before + number}: {names}{line.decode().strip()}')
+
+    def finish(self):
+        """Writes the last line if all was compared, or the run was ended by a refusal; gives the status."""
+        tally, frames = self.tally, self.frames
+        self.child.wait()
+        if self.child.returncode != 0 or self.errors:
+            why = self.errors.split(b'\n')[0].decode('utf-8', 'replace') or f'status {self.child.returncode}'
+            raise Failure(f'{tally.who}: {why}')
+        tally.end()
+        if frames is not None and (tally.pairs() < frames.count or not self.is_whole and frames.ending is None):
+            raise Failure(f'{tally.who}: it ended behind pair {tally.pairs()}, and there are more')
+        if tally.pairs() == 0:
+            raise Failure('standard input: there is no pair in it')
+        if frames is None and tally.pairs() == PAIRS and tally.ending is None and more_input():
+            raise Failure(f'standard input: more than {PAIRS} pairs, and a run takes no more')
+        if tally.ending is not None:
+            self.tell_ending()
+        write_out(tally.last)
+        return tally.status()
+
+    def tell_ending(self):
+        """Says what was not compared, where a refusal ended the run."""
+        tally, frames = self.tally, self.frames
+        number = self.before + tally.pairs()
+        if frames is not None and len(frames.pairs) > frames.count:
+            say(f'not compared: {len(frames.pairs) - frames.count} of {len(frames.pairs)} pairs, since pair {number} ended the run '
+                f'with a program of more than {PROGRAM} bytes')
+        if frames is None:
+            why = 'the input is cut' if b'input' in tally.ending else f'a length above {PROGRAM} ended the run'
+            say(f'not compared: what follows pair {number}, since {why} there')
+
+
+def more_input():
+    """Whether standard input goes on behind the pairs that were taken."""
+    try:
+        return os.read(0, 1) != b''
+    except OSError as error:
+        raise Failure(f'standard input: {error.strerror}') from None
+
+
+def reply_to_many(call):
+    """Compares many pairs by one run of `batch`; gives the status."""
+    pairs, before = (None, 0) if call.framed else part_of(pairs_of(call.names), call.part)
+    frames = None if call.framed else Frames(pairs, '--bytes' in call.options)
+    command = [program(Separate), 'batch'] if '--unproved' in call.options else [program(Proved('batch'))]
+    if mark:
+        say('these replies are of the separately written program')
+    with held_signals():
+        child = subprocess.Popen(command, bufsize=0, stdin=None if call.framed else subprocess.PIPE, stdout=subprocess.PIPE,
+                                 stderr=subprocess.PIPE, env={}, cwd='/')
+        try:
+            with open_signals():
+                batch = Batch(child, frames, before)
+                batch.follow()
+                return batch.finish()
+        finally:
+            # It is killed before its pipes are closed: it would take the end of its input for the end of the pairs.
+            child.kill()
+            child.wait()
+            wipe_progress()
+
+
 # ---- the call
 
 
@@ -706,19 +1112,34 @@ class Call:
 
     def __init__(self, words):
         self.options = set()
-        self.question = None
-        while words and words[0] in ('--help', '--question', '--explain', '--places', '--bytes', '--unproved'):
+        self.question = self.part = None
+        while words and words[0] in OPTIONS:
             option = words.pop(0)
             if option == '--question':
                 self.question = words.pop(0) if words else ''
+            if option == '--part':
+                self.part = words.pop(0) if words else ''
             self.options.add(option)
         self.framed = words == ['-']
         if words and words[0] == '--':
             words.pop(0)
         self.names = [] if self.framed else words
-        alone = self.options & {'--help', '--question'}
-        if len(self.options) > 1 and alone or (words if alone else not self.framed and len(words) != 2):
-            raise Failure('usage: tengmua LEFT RIGHT; tengmua --help says more')
+        if not self.is_known(len(words)):
+            forms = [form for option, form in FORMS if option in self.options]
+            raise Failure(f'usage: tengmua {forms[0] if forms else "LEFT RIGHT"}; tengmua --help says more')
+
+    def is_known(self, count):
+        """Whether so many words may stand behind these options."""
+        options = self.options
+        if options & {'--help', '--question'}:
+            return len(options) == 1 and count == 0
+        if '--totals' in options:
+            return len(options) == 1 and count > 0 and not self.framed
+        if '--batch' not in options:
+            return '--part' not in options and (self.framed or count == 2)
+        if self.framed:
+            return options <= {'--batch', '--unproved'}
+        return not options & {'--explain', '--places'} and (count == 1 or count > 0 and count % 2 == 0)
 
 
 def framed_files(data):
@@ -730,9 +1151,6 @@ def framed_files(data):
 
 def reply(call):
     """Reads, asks, writes the line and explains it; gives the status."""
-    global mark
-    if '--unproved' in call.options:
-        mark = b'NOT PROVED: '
     if call.framed:
         try:
             data = read_most(0, FRAMED)
@@ -740,11 +1158,7 @@ def reply(call):
             raise Failure(f'standard input: {error.strerror}') from None
         files = framed_files(data)
     else:
-        pipes = set()
-        files = [read_file(name, '--bytes' in call.options, pipes) for name in call.names]
-        for file in files:
-            if file.text is not None:
-                assemble(file)
+        files = read_pair(call.names, '--bytes' in call.options, set())
         data = framed(files[0].bytes, files[1].bytes)
     output, origins = ask('explain' if '--explain' in call.options else 'pair', data, files, '--unproved' in call.options)
     lines = lines_of(output, origins, files)
@@ -757,6 +1171,7 @@ def reply(call):
 
 
 def run():
+    global mark
     call = Call(sys.argv[1:])
     if '--help' in call.options:
         write_out(HELP.encode())
@@ -764,7 +1179,11 @@ def run():
     if call.question is not None:
         tell_question(call.question)
         return 0
-    return reply(call)
+    if '--totals' in call.options:
+        return add_totals(call.names)
+    if '--unproved' in call.options:
+        mark = b'NOT PROVED: '
+    return reply_to_many(call) if '--batch' in call.options else reply(call)
 
 
 def open_standard():
