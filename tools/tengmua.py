@@ -1052,7 +1052,7 @@ class Batch:
             raise Failure(f'{tally.who}: {why}')
         tally.end()
         if frames is not None and (tally.pairs() < frames.count or not self.is_whole and frames.ending is None):
-            raise Failure(f'{tally.who}: it ended behind pair {tally.pairs()}, and there are more')
+            raise Failure(f'{tally.who}: it ended behind {tally.pairs()} of {len(frames.pairs)} pairs')
         if tally.pairs() == 0:
             raise Failure('standard input: there is no pair in it')
         if frames is None and tally.pairs() == PAIRS and tally.ending is None and more_input():
@@ -1199,6 +1199,7 @@ def open_standard():
             other = os.open(os.devnull, os.O_RDWR)
             if other != fd:
                 os.dup2(other, fd)
+            os.set_inheritable(fd, True)  # as standard input of `batch`
 
 
 def on_signal(number, _):
