@@ -1055,8 +1055,8 @@ class Batch:
             raise Failure(f'{tally.who}: it ended behind {tally.pairs()} of {len(frames.pairs)} pairs')
         if tally.pairs() == 0:
             raise Failure('standard input: there is no pair in it')
-        if frames is None and tally.pairs() == PAIRS and tally.ending is None and more_input():
-            raise Failure(f'standard input: more than {PAIRS} pairs, and a run takes no more')
+        if frames is None and tally.pairs() == PAIRS and tally.ending is None:
+            ask_for_more()
         if tally.ending is not None:
             self.tell_ending()
         write_out(tally.last)
@@ -1074,12 +1074,16 @@ class Batch:
             say(f'not compared: what follows pair {number}, since {why} there')
 
 
-def more_input():
-    """Whether standard input goes on behind the pairs that were taken."""
+def ask_for_more():
+    """Fails if standard input goes on behind the most pairs that are taken. `separate` reads ahead, so there nobody can tell."""
+    if mark:
+        raise Failure(f'standard input: {PAIRS} pairs, which is all that a run takes, and more may follow')
     try:
-        return os.read(0, 1) != b''
+        more = os.read(0, 1)
     except OSError as error:
         raise Failure(f'standard input: {error.strerror}') from None
+    if more:
+        raise Failure(f'standard input: more than {PAIRS} pairs, and a run takes no more')
 
 
 def reply_to_many(call):
