@@ -73,7 +73,7 @@ reply: on `differs` the element with its subscripts, on `refused` the question a
   --unproved      ask the separately written program, which is not proved but is built in seconds; each line on standard error
                   says so
 
-With --batch each pair has its line, in order. The last line has the totals, C of them the compared elements of all equal pairs:
+With --batch each pair has its line, in order. The last line has the totals; C adds up the compared elements of the equal pairs:
 
   pairs N equal E differs D refused R elements C
 
@@ -84,7 +84,8 @@ program of more than 16,384 bytes is refused and ends it, so does a stream that 
   DIRECTORY       each file below it, at any depth, is NAME.left or NAME.left.EXT, or NAME.right or NAME.right.EXT; EXT has no dot.
                   Each NAME has one of the left and one of the right in the same folder. Anything else there is a failure, before
                   anything is compared. The order is that of the folders' names and then of NAME, by their bytes
-  --part K/N      the K-th of N parts of the pairs, which follow one another: the lines of all parts in order are those of one run
+  --part K/N      the K-th of N parts of the pairs, which follow one another: the lines of all parts in order are those of one run,
+                  unless a refusal ends it
   --totals        each FILE is the whole output of a run; the sum of the last lines is printed, with the status that it has
 
 The first call proves and builds what is missing, which takes some minutes.
