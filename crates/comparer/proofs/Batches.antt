@@ -6,19 +6,13 @@ use mathlib.Core.List.{List, [], _∷_, _++_, map, append-assoc}
 use mathlib.Core.Bool.{Bool, true, false, cond, false≢true}
 use lib.ListN.{length, getD, take, drop, length-append, length-take, length-map}
 use lib.Seq.{take-append-seam, drop-append-seam, drop-at, take-take, take-all, take-nil, drop-nil}
-use lib.Dec.{leb, eqb}
+use lib.Dec.{leb}
 use borrow.Author.Tests.{leb-true, leb-false, le-leb, lt-leb}
-use Rattle.model.specs.Test.{if_then_else_, total}
+use Rattle.model.specs.Test.{total}
 use Rattle.model.specs.Tables.{Array, Tables, cells}
 use Rattle.model.specs.Reply.{Reply, Side, equal, differs, refused, input, isRefused}
-use Rattle.reader.specs.Field.{Outcome, got, no}
-use Rattle.reader.specs.Syntax.{Program}
-use Rattle.reader.specs.Grammar as grammar
-use Rattle.reader.specs.Grammar.{readProgram, program, body}
-use Rattle.reader.proofs.Binds.{read-by, asked-by, got-is}
-use Rattle.unroller.proofs.Parts.{TablesParts, room}
+use Rattle.unroller.proofs.Parts.{room}
 use Rattle.unroller.proofs.Runs.{unrolls}
-use Rattle.unroller.proofs.Accepted.{tables-allowed}
 use Rattle.comparer.specs.Match.{compared, comparedSize}
 use Rattle.comparer.specs.Entry.{programsReply, allBits}
 use Rattle.comparer.specs.Line.{lineOf}
@@ -28,6 +22,7 @@ use Rattle.comparer.specs.Claims.{equalCounts, BatchSummed, BatchSteps, 
 use Rattle.comparer.specs.declared.batch.Totals.{Totals}
 use Rattle.comparer.proofs.BatchLaws.{left-long, right-long, both-fit, no-byte, few-bytes, four-bytes}
 use Rattle.comparer.proofs.Theorems.{demand2-programs}
+use Rattle.comparer.proofs.Plain.{program-tables}
 
 -- ---- E + D + R, and C
 
@@ -81,18 +76,6 @@ batch-summed s =
     record { kinds = kinds (replies s) ∙ e; number = sym e; most = omega (arith, pairs-most mostPairs s); equals = equals-are (replies s); sum = sum-is (replies s) }
 
 -- ---- a count is at most 2,048
-
-program-tables : (s : List ℕ) (p : Program) (next : ℕ) → readProgram s ≡ got p next → TablesParts (p .tables)
-unfolding readProgram program
-program-tables s p next e = go (leb (length s) 16384) e
-  where
-    go : (z : Bool) → _≡_ {A = Outcome Program} (if z then program s 0 else no 2 0) (got p next) → TablesParts (p .tables)
-    go true r =
-        read-by (grammar.tables s 0) _ r λ t at1 e1 r1.
-        read-by (body t (length s) 8 0 s at1) _ r1 λ is at2 e2 r2.
-        asked-by 14 at2 (eqb at2 (length s)) s at2 _ r2 λ _ r3.
-        got-is (λ (q : Program). TablesParts (q .tables)) r3 (tables-allowed s 0 e1)
-    go false r = absurd (let z : _≡_ {A = ℕ} 0 1 = cc in omega arith)
 
 compared-most : (mask a : ℕ) (xs : List Array) → comparedSize mask a xs ≤ room xs
 compared-most mask a [] = omega arith

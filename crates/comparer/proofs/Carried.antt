@@ -1,27 +1,42 @@
 -- The claims of specs/Carried.antt.
 use Prim.Native.Nat.{ℕ}
 use mathlib.Core.Path.{_≡_, sym, ap, _∙_, subst}
+use mathlib.Core.Bool.{Bool, false}
 use mathlib.Core.List.{List, _∷_, map, List·Memᴰ, List·Memᴰ·head, List·Memᴰ·tail}
+use Rattle.model.specs.Update.{Listed}
+use Rattle.model.specs.Reply as model
 use Rattle.model.specs.Reply.{isRefused, equal}
-use Rattle.comparer.specs.Entry.{programsReply, allBits, leftIn, rightIn, inputReply}
+use Rattle.comparer.specs.Entry.{entryReply, programsReply, plainReply, allBits, leftIn, rightIn, inputMasked, inputReply}
 use Rattle.comparer.specs.Line.{lineOf}
 use Rattle.comparer.specs.Rows.{Row, framed, starred}
+use Rattle.comparer.specs.Told.{Told, ToldOut}
 use Rattle.comparer.specs.Claims.{ToldOf, Beside}
 use Rattle.comparer.specs.Answers.{replySays}
-use Rattle.comparer.specs.Carried.{ListsAnswered, ProgramsAnswered, ReorderedAnswered, BesideAnswered, InputAnswered, EqualAnswered, StarredAnswered}
+use Rattle.comparer.specs.declared.reply.Reply.{Reply}
+use Rattle.comparer.specs.Carried.{ListsAnswered, ProgramsAnswered, PlainAnswered, ReorderedAnswered, BesideAnswered, InputAnswered, MaskedAnswered, EqualAnswered, StarredAnswered}
 use Rattle.comparer.proofs.Theorems.{entered, demand2-words, demand2-programs, demand3}
 use Rattle.comparer.proofs.Itself.{beside-itself-words}
-use Rattle.comparer.proofs.Input.{demand2-input, same-values}
+use Rattle.comparer.proofs.Plain.{demand2-plain}
+use Rattle.comparer.proofs.Input.{demand2-input, demand2-masked, same-values}
 use Rattle.comparer.proofs.Table.{starred-rows}
 use Rattle.comparer.proofs.Writing.{line-text}
 
 pub lists-answered : ListsAnswered
-lists-answered mask one other cells terms r e n = subst (ToldOf mask _ one other) (sym e) (demand2-words mask one other cells terms (sym (ap isRefused e) ∙ n))
+lists-answered mask one other cells terms r e n = subst (ToldOf (Told mask) _ one other) (sym e) (demand2-words mask one other cells terms (sym (ap isRefused e) ∙ n))
+
+-- what is told of a reply is told of the answer that says it, after 25
+answered : (Tells : Listed → Listed → model.Reply → Type 1) (from : List ℕ → Listed → Type 0) (one other : List ℕ) (reply : model.Reply)
+    → (isRefused reply ≡ false → ToldOf Tells from one other reply)
+    → (long : Bool) (r : Reply) → replySays r ≡ entryReply long reply → isRefused (replySays r) ≡ false → ToldOf Tells from one other (replySays r)
+answered Tells from one other reply f long r e n =
+    let q = e ∙ entered long reply (sym (ap isRefused e) ∙ n) in
+    subst (ToldOf Tells from one other) (sym q) (f (sym (ap isRefused q) ∙ n))
 
 pub programs-answered : ProgramsAnswered
-programs-answered long mask one other r e n =
-    let q = e ∙ entered long (programsReply mask one other) (sym (ap isRefused e) ∙ n) in
-    subst (ToldOf mask _ one other) (sym q) (demand2-programs mask one other (sym (ap isRefused q) ∙ n))
+programs-answered long mask one other = answered (Told mask) _ one other (programsReply mask one other) (demand2-programs mask one other) long
+
+pub plain-answered : PlainAnswered
+plain-answered long one other = answered ToldOut _ one other (plainReply one other) (demand2-plain one other) long
 
 pub reordered-answered : ReorderedAnswered
 reordered-answered old l e order h mask third cells terms r q =
@@ -34,9 +49,10 @@ beside-answered old l e order h mask cells terms n r =
     (λ q. subst (Beside mask l) (sym q) (b .0), λ q. subst (Beside mask l) (sym q) (b .1))
 
 pub input-answered : InputAnswered
-input-answered long s r e n =
-    let q = e ∙ entered long (inputReply s) (sym (ap isRefused e) ∙ n) in
-    subst (ToldOf allBits _ (leftIn s) (rightIn s)) (sym q) (demand2-input s (sym (ap isRefused q) ∙ n))
+input-answered long s = answered (Told allBits) _ (leftIn s) (rightIn s) (inputReply s) (demand2-input s) long
+
+pub masked-answered : MaskedAnswered
+masked-answered long mask s = answered (Told mask) _ (leftIn s) (rightIn s) (inputMasked mask s) (demand2-masked mask s) long
 
 pub equal-answered : EqualAnswered
 equal-answered long s r n e f =

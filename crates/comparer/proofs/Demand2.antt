@@ -211,16 +211,16 @@ module _ (mask : ℕ) (l r : Listed) where
       before : (b d : ℕ) → Compared mask l b d → Earlier b d (z .a) (z .e) → Agree l r b d
       before b d c w = agree-true p q y b d (z .before b b d (omega arith) c w)
 
-      first : FirstApart mask l r (z .a) (z .e)
+      first : FirstApart (Compared mask l) l r (z .a) (z .e)
       first = (here, apart, before)
 
-      move : (a e : ℕ) → listsReply mask l r ≡ differs a e → FirstApart mask l r a e
+      move : (a e : ℕ) → listsReply mask l r ≡ differs a e → FirstApart (Compared mask l) l r a e
       move a e d =
           let v : z .a ≡ a = cc is in
           let w : z .e ≡ e = cc is in
-          subst (λ (i : ℕ). FirstApart mask l r i e) v (subst (λ (i : ℕ). FirstApart mask l r (z .a) i) w first)
+          subst (λ (i : ℕ). FirstApart (Compared mask l) l r i e) v (subst (λ (i : ℕ). FirstApart (Compared mask l) l r (z .a) i) w first)
 
-      place : (a e : ℕ) → FirstApart mask l r a e → listsReply mask l r ≡ differs a e
+      place : (a e : ℕ) → FirstApart (Compared mask l) l r a e → listsReply mask l r ≡ differs a e
       place a e g =
           let w = same-place (z .a) (z .e) a e
           (λ w. not-apart (z .a) (z .e) (g .2 (z .a) (z .e) here w) apart)

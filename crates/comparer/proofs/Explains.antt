@@ -20,21 +20,21 @@ use Rattle.unroller.specs.OriginReply.{Told, told, originReply, sourceSays, ori
 use Rattle.unroller.specs.declared.origins.Origin.{Origin as Found}
 use Rattle.unroller.proofs.Parts.{both}
 use Rattle.comparer.specs.Match.{listsReply}
-use Rattle.comparer.specs.Entry.{enoughLent, entryReply, programsReply, sideReply, allBits, leftIn, rightIn, inputReply}
-use Rattle.comparer.specs.Explain.{Chosen, leftSide, rightSide, chosen, Answer, Explanation, explained, byReply, explanation, inputExplanation}
+use Rattle.comparer.specs.Entry.{enoughLent, entryReply, sideReply, programsBy, programsReply, leftIn, rightIn, inputBy}
+use Rattle.comparer.specs.Explain.{Chosen, leftSide, rightSide, chosen, Answer, Explanation, explained, byReply, explanation, inputExplanationBy}
 use Rattle.comparer.specs.ExplainAnswers.{answerBy, explanationBy, repliedBy, listLeft}
 use Rattle.comparer.proofs.Input.{unrefused}
 
 -- a "differs" comes of two programs that unroll
-pub differs-unrolls : (mask : ℕ) (side : Chosen) (l r : List ℕ) (a e : ℕ) → programsReply mask l r ≡ differs a e → (x : Listed) × (unrolled (chosen side l r) ≡ ok x)
-unfolding programsReply
+pub differs-unrolls : (mask : Listed → ℕ) (side : Chosen) (l r : List ℕ) (a e : ℕ) → programsBy mask l r ≡ differs a e → (x : Listed) × (unrolled (chosen side l r) ≡ ok x)
+unfolding programsBy
 differs-unrolls mask side l r a e h = go (unrolled l) refl (unrolled r) refl h
   where
     pick : (side : Chosen) (x y : Listed) → unrolled l ≡ ok x → unrolled r ≡ ok y → (z : Listed) × (unrolled (chosen side l r) ≡ ok z)
     pick leftSide x y p q = (x, p)
     pick rightSide x y p q = (y, q)
 
-    go : (m : Ran Listed) → unrolled l ≡ m → (n : Ran Listed) → unrolled r ≡ n → sideReply left m (λ x. sideReply right n (λ y. listsReply mask x y)) ≡ differs a e
+    go : (m : Ran Listed) → unrolled l ≡ m → (n : Ran Listed) → unrolled r ≡ n → sideReply left m (λ x. sideReply right n (λ y. listsReply (mask x) x y)) ≡ differs a e
         → (z : Listed) × (unrolled (chosen side l r) ≡ ok z)
     go (ok x) p (ok y) q h = pick side x y p q
     go (ok x) p (stop k o) q h = absurd (let z : _≡_ {A = ℕ} 0 1 = cc in omega arith)
@@ -96,23 +96,23 @@ module _ (long : Bool) (mask : ℕ) (side : Chosen) (l r : List ℕ) (q : Reply)
     (list list₁ : List ℕ) (lists : list₁ ≡ workLeft long list) (room : long ≡ true → listWords ≤ length list) where
   pub explain-says : repliedBy q (λ a e. originReply (chosen side l r) a e (length list₁)) ≡ explanation long mask side l r
   unfolding explanation
-  explain-says = reply-says long (programsReply mask l r) (chosen side l r) (differs-unrolls mask side l r) q says list list₁ lists room
+  explain-says = reply-says long (programsReply mask l r) (chosen side l r) (differs-unrolls (λ x. mask) side l r) q says list list₁ lists room
 
   pub explain-leaves : listLeft q list₁ ≡ workLeft long list
-  explain-leaves = reply-leaves long (programsReply mask l r) (chosen side l r) (differs-unrolls mask side l r) q says list list₁ lists room
+  explain-leaves = reply-leaves long (programsReply mask l r) (chosen side l r) (differs-unrolls (λ x. mask) side l r) q says list list₁ lists room
 
 -- framed input
-input-unrolls : (side : Chosen) (s : List ℕ) (a e : ℕ) → inputReply s ≡ differs a e → (x : Listed) × (unrolled (chosen side (leftIn s) (rightIn s)) ≡ ok x)
-input-unrolls side s a e h = differs-unrolls allBits side (leftIn s) (rightIn s) a e (sym (unrefused s (ap isRefused h)) ∙ h)
+input-unrolls : (mask : Listed → ℕ) (side : Chosen) (s : List ℕ) (a e : ℕ) → inputBy mask s ≡ differs a e → (x : Listed) × (unrolled (chosen side (leftIn s) (rightIn s)) ≡ ok x)
+input-unrolls mask side s a e h = differs-unrolls mask side (leftIn s) (rightIn s) a e (sym (unrefused mask s (ap isRefused h)) ∙ h)
 
-module _ (long : Bool) (side : Chosen) (s : List ℕ) (q : Reply) (says : q ≡ entryReply long (inputReply s))
+module _ (long : Bool) (mask : Listed → ℕ) (side : Chosen) (s : List ℕ) (q : Reply) (says : q ≡ entryReply long (inputBy mask s))
     (list list₁ : List ℕ) (lists : list₁ ≡ workLeft long list) (room : long ≡ true → listWords ≤ length list) where
-  pub input-says : repliedBy q (λ a e. originReply (chosen side (leftIn s) (rightIn s)) a e (length list₁)) ≡ inputExplanation long side s
-  unfolding inputExplanation
-  input-says = reply-says long (inputReply s) (chosen side (leftIn s) (rightIn s)) (input-unrolls side s) q says list list₁ lists room
+  pub input-says : repliedBy q (λ a e. originReply (chosen side (leftIn s) (rightIn s)) a e (length list₁)) ≡ inputExplanationBy mask long side s
+  unfolding inputExplanationBy
+  input-says = reply-says long (inputBy mask s) (chosen side (leftIn s) (rightIn s)) (input-unrolls mask side s) q says list list₁ lists room
 
   pub input-leaves : listLeft q list₁ ≡ workLeft long list
-  input-leaves = reply-leaves long (inputReply s) (chosen side (leftIn s) (rightIn s)) (input-unrolls side s) q says list list₁ lists room
+  input-leaves = reply-leaves long (inputBy mask s) (chosen side (leftIn s) (rightIn s)) (input-unrolls mask side s) q says list list₁ lists room
 
 drop-all : (n : ℕ) (l : List ℕ) → length l ≤ n → drop n l ≡ []
 drop-all zero [] h = refl

@@ -14,7 +14,7 @@ use borrow.Author.Tests.{le-leb, leb-true}
 use denote.Ref.{RefT, now}
 use Rattle.model.specs.Test.{if_then_else_}
 use Rattle.model.specs.Update.{Update, Listed, writes, written}
-use Rattle.model.specs.Reply.{Side, left, both, input, Reply, equal, differs, refused}
+use Rattle.model.specs.Reply.{Side, left, both, input, Reply, equal, differs, refused, isRefused}
 use Rattle.reader.specs.Field.{littleEndian}
 use Rattle.reader.proofs.Lists.{take-padded}
 use Rattle.reader.proofs.Numbers.{by-order}
@@ -22,10 +22,10 @@ use Rattle.unroller.specs.Run.{Ran, ok, stop}
 use Rattle.unroller.specs.Executed.{Origin, originOf}
 use Rattle.unroller.specs.Traced.{stretchOf}
 use Rattle.unroller.proofs.Executed.{traces, written-at, never-written}
-use Rattle.comparer.specs.Entry.{entryReply, programsReply, allBits, leftIn, rightIn, inputReply}
+use Rattle.comparer.specs.Entry.{entryReply, programsBy, programsReply, allBits, leftIn, rightIn, inputBy}
 use Rattle.comparer.specs.Explain as Explain
-use Rattle.comparer.specs.Explain.{Chosen, rightSide, chosen, Answer, Explanation, plain, explained, byReply, explanation, inputExplanation}
-use Rattle.comparer.specs.Claims.{TracedUpdates, WrittenIs, WrittenExplained, StartingIs, StartingExplained, UnwrittenExplained, RefusedExplained, InputExplained, ExplainedCut}
+use Rattle.comparer.specs.Explain.{Chosen, rightSide, chosen, Answer, Explanation, plain, explained, byReply, explanation, inputExplanationBy}
+use Rattle.comparer.specs.Claims.{TracedUpdates, WrittenIs, WrittenExplained, StartingIs, StartingExplained, UnwrittenExplained, RefusedExplained, InputExplained, MaskedExplained, ExplainedCut}
 use Rattle.comparer.specs.ExplainAnswers.{chosenSays, chosenOf, answerSays, explanationSays, inside, Part, IsPart}
 use Rattle.comparer.specs.Carried.{WrittenAnswered, OtherAnswered}
 use Rattle.comparer.specs.declared.explanation.Chosen as code
@@ -33,7 +33,7 @@ use Rattle.comparer.specs.declared.explanation.Chosen.the-variants as si
 use Rattle.comparer.specs.declared.explanation.Answer as given
 use Rattle.comparer.specs.declared.explanation.Answer.the-variants as answer
 use Rattle.comparer.specs.declared.explanation.Explanation.{Explanation as Given}
-use Rattle.comparer.proofs.Input.{too-long, input-cut, unrefused}
+use Rattle.comparer.proofs.Input.{too-long, cut-by, unrefused}
 use Rattle.comparer.proofs.Explains.{differs-unrolls}
 
 pub traced-updates : TracedUpdates
@@ -72,7 +72,7 @@ written-explained long mask side l r a e h =
         let y : Explain.written b c ≡ Explain.written a e = sym (ap (λ (x : Explanation). x .answer) x) ∙ h in
         let f : b ≡ a = cc in
         let g : c ≡ e = cc in
-        let u = differs-unrolls mask side l r b c q in
+        let u = differs-unrolls (λ x. mask) side l r b c q in
         subst (λ (a : ℕ). WrittenIs mask side l r a e (explanation long mask side l r)) f
         (subst (λ (e : ℕ). WrittenIs mask side l r b e (explanation long mask side l r)) g
         (record { differ = q; list = u .0; unrolls = u .1; origin = o; handed = x; holds = written-at (chosen side l r) (u .0) (u .1) b c o i }))
@@ -91,7 +91,7 @@ starting-explained long mask side l r a e h =
         let y : Explain.starting b c ≡ Explain.starting a e = sym (ap (λ (x : Explanation). x .answer) x) ∙ h in
         let f : b ≡ a = cc in
         let g : c ≡ e = cc in
-        let u = differs-unrolls mask side l r b c q in
+        let u = differs-unrolls (λ x. mask) side l r b c q in
         subst (λ (a : ℕ). StartingIs mask side l r a e (explanation long mask side l r)) f
         (subst (λ (e : ℕ). StartingIs mask side l r b e (explanation long mask side l r)) g
         (record { differ = q; list = u .0; unrolls = u .1; never = never-written (chosen side l r) (u .0) (u .1) b c i; handed = x }))
@@ -137,42 +137,52 @@ refused-explained long mask side l r s k p h =
     go b c (some o) y = absurd (let z : _≡_ {A = ℕ} 0 1 = cc in omega arith)
 
 -- ---- framed input
+input-by : (mask : Listed → ℕ) (n : ℕ) (long : Bool) (side : Chosen) (s : List ℕ) → isRefused (inputBy mask s) ≡ false → programsBy mask (leftIn s) (rightIn s) ≡ programsReply n (leftIn s) (rightIn s)
+    → inputExplanationBy mask long side s ≡ explanation long n side (leftIn s) (rightIn s)
+unfolding inputExplanationBy explanation
+input-by mask n long side s h e = ap (λ (m : Reply). byReply (originOf (chosen side (leftIn s) (rightIn s))) (entryReply long m)) (unrefused mask s h ∙ e)
+
 pub input-explained : InputExplained
-unfolding inputExplanation explanation
-input-explained long side s h = ap (λ (m : Reply). byReply (originOf (chosen side (leftIn s) (rightIn s))) (entryReply long m)) (unrefused s h)
+input-explained long side s h = input-by (λ x. allBits) allBits long side s h refl
+
+pub masked-explained : MaskedExplained
+masked-explained long mask side s h = input-by (λ x. mask) mask long side s h refl
 
 -- an input with a difference holds no more bytes than both programs may have
-differs-short : (s : List ℕ) (a e : ℕ) → inputReply s ≡ differs a e → length s ≤ 32771
-unfolding inputReply
-differs-short s a e h = go (leb 2 (length s)) (leb (littleEndian 2 s 0) 16384) refl (leb (littleEndian 2 s 0) (length (drop 2 s))) h
+differs-short : (mask : Listed → ℕ) (s : List ℕ) (a e : ℕ) → inputBy mask s ≡ differs a e → length s ≤ 32771
+unfolding inputBy
+differs-short mask s a e h = go (leb 2 (length s)) (leb (littleEndian 2 s 0) 16384) refl (leb (littleEndian 2 s 0) (length (drop 2 s))) h
   where
-    right-short : littleEndian 2 s 0 ≤ 16384 → programsReply allBits (leftIn s) (rightIn s) ≡ differs a e → length s ≤ 32771
+    right-short : littleEndian 2 s 0 ≤ 16384 → programsBy mask (leftIn s) (rightIn s) ≡ differs a e → length s ≤ 32771
     right-short k q =
         let n = length-drop 2 s in
         let m = length-drop (littleEndian 2 s 0) (drop 2 s) in
         by-order (length (rightIn s)) 16384 (λ w. omega arith) λ w.
-        let u = differs-unrolls allBits rightSide (leftIn s) (rightIn s) a e q in
+        let u = differs-unrolls mask rightSide (leftIn s) (rightIn s) a e q in
         let x : _≡_ {A = Ran Listed} (stop 2 0) (ok (u .0)) = sym (too-long (rightIn s) w) ∙ u .1 in
         absurd (let z : _≡_ {A = ℕ} 0 1 = cc in omega arith)
 
     go : (b c : Bool) → leb (littleEndian 2 s 0) 16384 ≡ c → (d : Bool)
-        → (if b then (if c then (if d then programsReply allBits (leftIn s) (rightIn s) else refused input 1 0) else refused left 2 0) else refused input 1 0) ≡ differs a e → length s ≤ 32771
+        → (if b then (if c then (if d then programsBy mask (leftIn s) (rightIn s) else refused input 1 0) else refused left 2 0) else refused input 1 0) ≡ differs a e → length s ≤ 32771
     go true true w true q = right-short (leb-true (littleEndian 2 s 0) 16384 w) q
     go true true w false q = absurd (let z : _≡_ {A = ℕ} 0 1 = cc in omega arith)
     go true false w d q = absurd (let z : _≡_ {A = ℕ} 0 1 = cc in omega arith)
     go false c w d q = absurd (let z : _≡_ {A = ℕ} 0 1 = cc in omega arith)
 
-pub explained-cut : ExplainedCut
-unfolding inputExplanation
-explained-cut long side s =
-    ap (λ (m : Reply). byReply (originOf (chosen side (leftIn (take 32771 s)) (rightIn (take 32771 s)))) (entryReply long m)) (input-cut s) ∙ go long (inputReply s) refl
+cut-explained : (mask : Listed → ℕ) (long : Bool) (side : Chosen) (s : List ℕ) → inputExplanationBy mask long side (take 32771 s) ≡ inputExplanationBy mask long side s
+unfolding inputExplanationBy
+cut-explained mask long side s =
+    ap (λ (m : Reply). byReply (originOf (chosen side (leftIn (take 32771 s)) (rightIn (take 32771 s)))) (entryReply long m)) (cut-by mask s) ∙ go long (inputBy mask s) refl
   where
-    go : (b : Bool) (m : Reply) → inputReply s ≡ m
+    go : (b : Bool) (m : Reply) → inputBy mask s ≡ m
         → byReply (originOf (chosen side (leftIn (take 32771 s)) (rightIn (take 32771 s)))) (entryReply b m) ≡ byReply (originOf (chosen side (leftIn s) (rightIn s))) (entryReply b m)
     go false m h = refl
     go true (equal n) h = refl
     go true (refused t k p) h = refl
-    go true (differs a e) h = ap (λ (s : List ℕ). explained a e (originOf (chosen side (leftIn s) (rightIn s)) a e)) (take-all 32771 s (differs-short s a e h))
+    go true (differs a e) h = ap (λ (s : List ℕ). explained a e (originOf (chosen side (leftIn s) (rightIn s)) a e)) (take-all 32771 s (differs-short mask s a e h))
+
+pub explained-cut : ExplainedCut
+explained-cut long side s = (cut-explained (λ x. allBits) long side s, λ mask. cut-explained (λ x. mask) long side s)
 
 -- ---- carried to what the code answers
 now-chosen : (x : code.Chosen) (one other : RefT (List ℕ)) → now (chosenOf x one other) ≡ chosenOf x (now one) (now other)

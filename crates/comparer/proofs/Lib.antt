@@ -10,6 +10,8 @@ pub mod Positions
 pub mod KeptLists
 pub mod Theorems
 pub mod Itself
+pub mod Outs
+pub mod Plain
 pub mod Input
 pub mod Batches
 pub mod Table

@@ -18,10 +18,11 @@ use Rattle.unroller.specs.Unroll as Unroll
 use Rattle.unroller.specs.Unroll.{unrolled, unrollReply, unrollReplyBy, unrollLeaves}
 use Rattle.unroller.proofs.Encode.{decode-layout}
 use Rattle.unroller.proofs.Accepted.{unrolled-allowed}
+use Rattle.comparer.specs.Match.{listsReply}
 use Rattle.comparer.specs.Answers.{replySays}
 use Rattle.comparer.specs.Asked.{Held, Room, Asked}
 use Rattle.comparer.specs.Laying.{Lays, Ended}
-use Rattle.comparer.specs.Entry.{entryReply, programsReply, allBits, inputReply}
+use Rattle.comparer.specs.Entry.{entryReply, programsBy, inputBy}
 use Rattle.comparer.specs.Headers.{Counted}
 use Rattle.comparer.specs.declared.programs.Laid.the-variants as laid
 use Rattle.comparer.specs.declared.reply.Reply.{Reply}
@@ -66,18 +67,20 @@ pub ended-cleared : (list words : List ℕ) → listWords ≤ length list → wo
 ended-cleared list words h w = subst Ended (sym w) (ended-zeros (length list) (omega arith))
 
 -- two programs
-module _ (left right : List ℕ) (mask : ℕ) where
-  pub left-not : (question place : ℕ) (words : List ℕ) → Lays left words (laid.Not question place) → model.refused model.left question place ≡ programsReply mask left right
-  unfolding Lays programsReply
+module _ (left right : List ℕ) (mask : Listed → ℕ) where
+  pub left-not : (question place : ℕ) (words : List ℕ) → Lays left words (laid.Not question place) → model.refused model.left question place ≡ programsBy mask left right
+  unfolding Lays programsBy
   left-not question place words e = rw e
 
-  pub right-not : (question place : ℕ) (one other : List ℕ) → Lays left one laid.Out → Lays right other (laid.Not question place) → model.refused model.right question place ≡ programsReply mask left right
-  unfolding Lays programsReply
+  pub right-not : (question place : ℕ) (one other : List ℕ) → Lays left one laid.Out → Lays right other (laid.Not question place) → model.refused model.right question place ≡ programsBy mask left right
+  unfolding Lays programsBy
   right-not question place one other (l, e, h) f = rw (e, f)
 
-  pub both-out : (one other cells terms : List ℕ) (r : Reply) → Lays left one laid.Out → Lays right other laid.Out → Room cells terms → Asked one other mask cells terms r → replySays r ≡ programsReply mask left right
-  unfolding Lays Asked programsReply
-  both-out one other cells terms r (x, e, h) (y, f, g) room a = rw (e, f) (a x y h g room)
+  -- the code's mask k is that of the left's list
+  pub both-out : (one other cells terms : List ℕ) (r : Reply) (k : ℕ) → Lays left one laid.Out → Lays right other laid.Out → Room cells terms
+      → ((l : Listed) → Held one l → k ≡ mask l) → Asked one other k cells terms r → replySays r ≡ programsBy mask left right
+  unfolding Lays Asked programsBy
+  both-out one other cells terms r k (x, e, h) (y, f, g) room is a = rw (e, f) (a x y h g room ∙ ap (λ (n : ℕ). listsReply n x y) (is x h))
 
 pub lays-counted : (program words : List ℕ) → Lays program words laid.Out → Counted words
 unfolding Lays
@@ -91,27 +94,27 @@ pub entry-long : (b : Bool) (r s : model.Reply) → b ≡ true → s ≡ r → s
 entry-long b r s e f = rw e f
 
 -- framed input
-module _ (s : List ℕ) where
-  pub unframed : length s < 2 → model.refused model.input 1 0 ≡ inputReply s
-  unfolding inputReply
+module _ (mask : Listed → ℕ) (s : List ℕ) where
+  pub unframed : length s < 2 → model.refused model.input 1 0 ≡ inputBy mask s
+  unfolding inputBy
   unframed h = rw (lt-leb 2 (length s) h)
 
   module _ (n : ℕ) (e : n ≡ getD s 0 0 + 256 * getD s 1 0) (h : 2 ≤ length s) where
     number-is : littleEndian 2 s 0 ≡ n
     number-is = omega arith
 
-    pub framed-long : 16384 < n → model.refused model.left 2 0 ≡ inputReply s
-    unfolding inputReply
+    pub framed-long : 16384 < n → model.refused model.left 2 0 ≡ inputBy mask s
+    unfolding inputBy
     framed-long g = rw (le-leb 2 (length s) h, number-is, lt-leb n 16384 g)
 
-    pub framed-short : n ≤ 16384 → length s < 2 + n → model.refused model.input 1 0 ≡ inputReply s
-    unfolding inputReply
+    pub framed-short : n ≤ 16384 → length s < 2 + n → model.refused model.input 1 0 ≡ inputBy mask s
+    unfolding inputBy
     framed-short g k = let l = length-drop 2 s in rw (le-leb 2 (length s) h, number-is, le-leb n 16384 g, lt-leb n (length (drop 2 s)) (omega arith))
 
     -- the parts as they are lent: from 2 to 2 + n, and from there to the end
     pub framed-whole : (r : model.Reply) → n ≤ 16384 → 2 + n ≤ length s
-        → r ≡ programsReply allBits (take (2 + n - 2) (drop 2 s)) (take (length s - (2 + n)) (drop (2 + n) s)) → r ≡ inputReply s
-    unfolding inputReply
+        → r ≡ programsBy mask (take (2 + n - 2) (drop 2 s)) (take (length s - (2 + n)) (drop (2 + n) s)) → r ≡ inputBy mask s
+    unfolding inputBy
     framed-whole r g k f =
         let l = length-drop 2 s in
         let m : 2 + n - 2 ≡ n = omega arith in

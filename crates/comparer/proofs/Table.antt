@@ -1,8 +1,8 @@
--- The starred rows and the explained ones, computed; and examples that a wrong definition would fail.
+-- The known rows and the explained ones, computed; and examples that a wrong definition would fail.
 use Prim.Native.Nat.{ℕ}
 use mathlib.Core.Path.{_≡_, refl, ap, ap₂, _∙_}
 use mathlib.Core.List.{List, [], _∷_, map}
-use mathlib.Core.Bool.{true, and-eq-true-iff}
+use mathlib.Core.Bool.{Bool, true, and-eq-true-iff}
 use lib.ListN.{length}
 use lib.Dec.{leb}
 use borrow.Author.Tests.{leb-true}
@@ -22,7 +22,7 @@ use Rattle.unroller.specs.Executed.{executed, executeds, execution, writesTo, e
 use Rattle.terms.specs.Term.{turned, alike, alikes, parts, partsOf, termCount}
 use Rattle.comparer.specs.Meaning.{valueOf, valuesOf}
 use Rattle.comparer.specs.Match.{listsReply}
-use Rattle.comparer.specs.Entry.{programsReply, inputReply, allBits}
+use Rattle.comparer.specs.Entry.{programsBy, programsReply, allBits, inputBy}
 use Rattle.comparer.specs.Explain.{explanation}
 use Rattle.comparer.specs.Line.{lineOf}
 use Rattle.comparer.specs.ExplainLine.{explanationLine}
@@ -31,33 +31,42 @@ use Rattle.comparer.specs.Claims.{Printed, StarredRows, MarkedRows, Expl
 use Rattle.comparer.proofs.Input.{framed-programs}
 
 starred-programs : (any : List ℕ) → map (λ (x : Row). lineOf (programsReply allBits (x .one) (x .other any))) starred ≡ map (λ (x : Row). x .line) starred
-unfolding field byte u16 u32 i8 i16 times Grammar.head swaps operatorIn arityOf Grammar.operatorOf Grammar.operators Grammar.extent Grammar.array Grammar.arrays Grammar.tables Grammar.form Grammar.subscripts Grammar.index Grammar.readOf Grammar.literalOf Grammar.constantOf Grammar.applyOf Grammar.node Grammar.applied Grammar.expression Grammar.statementOf Grammar.step Grammar.loopOf Grammar.guardOf Grammar.items Grammar.itemOf Grammar.nested Grammar.body Grammar.program Grammar.readProgram Run.cellFrom Run.cellAt Run.tree Run.trees count counts Run.readable Run.readables Run.update Run.indices Run.rounds Run.run Run.runs runProgram unrolled turned alike alikes parts partsOf termCount valueOf valuesOf listsReply programsReply lineOf
+unfolding field byte u16 u32 i8 i16 times Grammar.head swaps operatorIn arityOf Grammar.operatorOf Grammar.operators Grammar.extent Grammar.array Grammar.arrays Grammar.tables Grammar.form Grammar.subscripts Grammar.index Grammar.readOf Grammar.literalOf Grammar.constantOf Grammar.applyOf Grammar.node Grammar.applied Grammar.expression Grammar.statementOf Grammar.step Grammar.loopOf Grammar.guardOf Grammar.items Grammar.itemOf Grammar.nested Grammar.body Grammar.program Grammar.readProgram Run.cellFrom Run.cellAt Run.tree Run.trees count counts Run.readable Run.readables Run.update Run.indices Run.rounds Run.run Run.runs runProgram unrolled turned alike alikes parts partsOf termCount valueOf valuesOf listsReply programsBy lineOf
 starred-programs any = refl
 
 marked-programs : (any : List ℕ) → map (λ (x : Row). lineOf (programsReply allBits (x .one) (x .other any))) marked ≡ map (λ (x : Row). x .line) marked
-unfolding field byte u16 u32 i8 i16 times Grammar.head swaps operatorIn arityOf Grammar.operatorOf Grammar.operators Grammar.extent Grammar.array Grammar.arrays Grammar.tables Grammar.form Grammar.subscripts Grammar.index Grammar.readOf Grammar.literalOf Grammar.constantOf Grammar.applyOf Grammar.node Grammar.applied Grammar.expression Grammar.statementOf Grammar.step Grammar.loopOf Grammar.guardOf Grammar.items Grammar.itemOf Grammar.nested Grammar.body Grammar.program Grammar.readProgram Run.cellFrom Run.cellAt Run.tree Run.trees count counts Run.readable Run.readables Run.update Run.indices Run.rounds Run.run Run.runs runProgram unrolled turned alike alikes swapsAt parts partsOf termCount valueOf valuesOf listsReply programsReply lineOf
+unfolding field byte u16 u32 i8 i16 times Grammar.head swaps operatorIn arityOf Grammar.operatorOf Grammar.operators Grammar.extent Grammar.array Grammar.arrays Grammar.tables Grammar.form Grammar.subscripts Grammar.index Grammar.readOf Grammar.literalOf Grammar.constantOf Grammar.applyOf Grammar.node Grammar.applied Grammar.expression Grammar.statementOf Grammar.step Grammar.loopOf Grammar.guardOf Grammar.items Grammar.itemOf Grammar.nested Grammar.body Grammar.program Grammar.readProgram Run.cellFrom Run.cellAt Run.tree Run.trees count counts Run.readable Run.readables Run.update Run.indices Run.rounds Run.run Run.runs runProgram unrolled turned alike alikes swapsAt parts partsOf termCount valueOf valuesOf listsReply programsBy lineOf
 marked-programs any = refl
 
-framed-all : (any : List ℕ) (rows : List Row) → every (λ (x : Row). leb (length (x .one)) 16384) rows ≡ true
-    → map (λ (x : Row). lineOf (inputReply (framed (x .one) (x .other any)))) rows ≡ map (λ (x : Row). lineOf (programsReply allBits (x .one) (x .other any))) rows
-framed-all any [] e = refl
-framed-all any (x ∷ xs) e =
-    let p = and-eq-true-iff (leb (length (x .one)) 16384) (every (λ (x : Row). leb (length (x .one)) 16384) xs) .0 e in
-    ap₂ {C = List (List ℕ)} _∷_ (ap lineOf (framed-programs (x .one) (x .other any) (leb-true (length (x .one)) 16384 (p .0)))) (framed-all any xs (p .1))
+-- a frame around a left side within its limit
+within-limit : List ℕ → Bool
+within-limit l = leb (length l) 16384
+
+framed-is : (mask : Listed → ℕ) (l r : List ℕ) → within-limit l ≡ true → lineOf (inputBy mask (framed l r)) ≡ lineOf (programsBy mask l r)
+unfolding within-limit
+framed-is mask l r e = ap lineOf (framed-programs mask l r (leb-true (length l) 16384 e))
+
+map-same : {A B : Type 0} (f g : A → B) (p : A → Bool) (xs : List A) → every p xs ≡ true → ((x : A) → p x ≡ true → f x ≡ g x) → map f xs ≡ map g xs
+map-same f g p [] e h = refl
+map-same {B = B} f g p (x ∷ xs) e h =
+    let q = and-eq-true-iff (p x) (every p xs) .0 e in
+    ap₂ {C = List B} _∷_ (h x (q .0)) (map-same f g p xs (q .1) h)
 
 -- enough for a row whose left side is within its limit
-printed : (rows : List Row) → every (λ (x : Row). leb (length (x .one)) 16384) rows ≡ true
+printed : (rows : List Row) → every (λ (x : Row). within-limit (x .one)) rows ≡ true
     → ((any : List ℕ) → map (λ (x : Row). lineOf (programsReply allBits (x .one) (x .other any))) rows ≡ map (λ (x : Row). x .line) rows) → Printed rows
-printed rows e f any = framed-all any rows e ∙ f any
+printed rows e f any = map-same _ _ (λ (x : Row). within-limit (x .one)) rows e (λ x p. framed-is (λ l. allBits) (x .one) (x .other any) p) ∙ f any
 
 pub starred-rows : StarredRows
+unfolding within-limit
 starred-rows = printed starred refl starred-programs
 
 pub marked-rows : MarkedRows
+unfolding within-limit
 marked-rows = printed marked refl marked-programs
 
 pub explained-rows : ExplainedRows
-unfolding field byte u16 u32 i8 i16 times Grammar.head swaps operatorIn arityOf Grammar.operatorOf Grammar.operators Grammar.extent Grammar.array Grammar.arrays Grammar.tables Grammar.form Grammar.subscripts Grammar.index Grammar.readOf Grammar.literalOf Grammar.constantOf Grammar.applyOf Grammar.node Grammar.applied Grammar.expression Grammar.statementOf Grammar.step Grammar.loopOf Grammar.guardOf Grammar.items Grammar.itemOf Grammar.nested Grammar.body Grammar.program Grammar.readProgram Run.cellFrom Run.cellAt Run.tree Run.trees count counts Run.readable Run.readables Run.update Run.indices Run.rounds Run.run Run.runs runProgram unrolled turned alike alikes parts partsOf termCount valueOf valuesOf listsReply programsReply lineOf explanation originOf endOf writesTo execution executed executeds explanationLine
+unfolding field byte u16 u32 i8 i16 times Grammar.head swaps operatorIn arityOf Grammar.operatorOf Grammar.operators Grammar.extent Grammar.array Grammar.arrays Grammar.tables Grammar.form Grammar.subscripts Grammar.index Grammar.readOf Grammar.literalOf Grammar.constantOf Grammar.applyOf Grammar.node Grammar.applied Grammar.expression Grammar.statementOf Grammar.step Grammar.loopOf Grammar.guardOf Grammar.items Grammar.itemOf Grammar.nested Grammar.body Grammar.program Grammar.readProgram Run.cellFrom Run.cellAt Run.tree Run.trees count counts Run.readable Run.readables Run.update Run.indices Run.rounds Run.run Run.runs runProgram unrolled turned alike alikes parts partsOf termCount valueOf valuesOf listsReply programsBy lineOf explanation originOf endOf writesTo execution executed executeds explanationLine
 explained-rows = refl
 
 -- an in array and an out array of two cells each, and an operator of two arguments

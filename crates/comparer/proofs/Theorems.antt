@@ -24,7 +24,7 @@ use Rattle.unroller.proofs.Question21.{run-question21, unrolled-question21}
 use Rattle.unroller.proofs.Runs.{unrolled-last, unrolled-reads}
 use Rattle.comparer.specs.Meaning.{Meaning, Content, after}
 use Rattle.comparer.specs.Match.{listsReply}
-use Rattle.comparer.specs.Entry.{decodedReply, enough, entryReply, wordsReply, sideReply, programsReply}
+use Rattle.comparer.specs.Entry.{decodedReply, enough, entryReply, wordsReply, sideReply, programsBy}
 use Rattle.comparer.specs.Told.{Shared, Told}
 use Rattle.comparer.specs.Order.{reorder}
 use Rattle.comparer.specs.Claims.{Demand2Lists, ToldOf, Demand2Words, Demand2Programs, Demand3, LayoutRead, LayoutOnly, LayoutInjective, LayoutFits, Question26, UnrolledAllowed, IndicesFit, FormsSmall, FormsFit, ProductsSmall, SumsSmall, SumsExact, Question21, RepliesWithout21, FreeStandsForAll}
@@ -79,9 +79,9 @@ pub question21 : Question21
 question21 = run-question21
 
 pub replies-without21 : RepliesWithout21
-unfolding programsReply
+unfolding programsBy
 replies-without21 mask one other =
-    ap₂ (λ (m n : Ran Listed). sideReply left m (λ x. sideReply right n (λ y. listsReply mask x y))) (unrolled-question21 one) (unrolled-question21 other)
+    ap₂ (λ (m n : Ran Listed). sideReply left m (λ x. sideReply right n (λ y. listsReply (mask x) x y))) (unrolled-question21 one) (unrolled-question21 other)
 
 pub free-stands-for-all : FreeStandsForAll
 free-stands-for-all S m h t σ = meaning-of-value m h t σ
@@ -99,7 +99,7 @@ demand2-words mask one other cells terms n =
     go (decode one) refl (decode other) refl e (sym (ap isRefused e) ∙ n)
   where
     go : (x : Option Listed) → decode one ≡ x → (y : Option Listed) → decode other ≡ y → wordsReply mask one other cells terms ≡ decodedReply mask x y → isRefused (decodedReply mask x y) ≡ false
-        → ToldOf mask (λ w l. decode w ≡ some l) one other (wordsReply mask one other cells terms)
+        → ToldOf (Told mask) (λ w l. decode w ≡ some l) one other (wordsReply mask one other cells terms)
     go none p y q e z = absurd (true≢false z)
     go (some l) p none q e z = absurd (true≢false z)
     go (some l) p (some r) q e z = record {
@@ -110,17 +110,19 @@ demand2-words mask one other cells terms n =
       told = subst (Told mask l r) (sym e) (demand2-lists mask l r (layout-decode one l p .1) (layout-decode other r q .1) z);
     }
 
-unrolled-sound : (bytes : List ℕ) (l : Listed) → unrolled bytes ≡ ok l → Sound l
+pub unrolled-sound : (bytes : List ℕ) (l : Listed) → unrolled bytes ≡ ok l → Sound l
 unrolled-sound bytes l e = record { ordered = unrolled-last bytes l e; reads = unrolled-reads bytes l e }
 
-pub demand2-programs : Demand2Programs
-unfolding programsReply
-demand2-programs mask one other n = go (unrolled one) refl (unrolled other) refl refl n
+-- two programs, under a mask that the left's list tells
+pub demand2-by : (mask : Listed → ℕ) (one other : List ℕ) → isRefused (programsBy mask one other) ≡ false
+    → ToldOf (λ l r reply. Told (mask l) l r reply) (λ p l. unrolled p ≡ ok l) one other (programsBy mask one other)
+unfolding programsBy
+demand2-by mask one other n = go (unrolled one) refl (unrolled other) refl refl n
   where
     go : (x : Ran Listed) → unrolled one ≡ x → (y : Ran Listed) → unrolled other ≡ y
-        → programsReply mask one other ≡ sideReply left x (λ l. sideReply right y (λ r. listsReply mask l r))
-        → isRefused (sideReply left x (λ l. sideReply right y (λ r. listsReply mask l r))) ≡ false
-        → ToldOf mask (λ p l. unrolled p ≡ ok l) one other (programsReply mask one other)
+        → programsBy mask one other ≡ sideReply left x (λ l. sideReply right y (λ r. listsReply (mask l) l r))
+        → isRefused (sideReply left x (λ l. sideReply right y (λ r. listsReply (mask l) l r))) ≡ false
+        → ToldOf (λ l r reply. Told (mask l) l r reply) (λ p l. unrolled p ≡ ok l) one other (programsBy mask one other)
     go (stop question place) p y q e z = absurd (true≢false z)
     go (ok l) p (stop question place) q e z = absurd (true≢false z)
     go (ok l) p (ok r) q e z = record {
@@ -128,8 +130,11 @@ demand2-programs mask one other n = go (unrolled one) refl (unrolled other) refl
       r = r;
       isLeft = p;
       isRight = q;
-      told = subst (Told mask l r) (sym e) (demand2 mask l r (unrolled-sound one l p) (unrolled-sound other r q) z);
+      told = subst (Told (mask l) l r) (sym e) (demand2 (mask l) l r (unrolled-sound one l p) (unrolled-sound other r q) z);
     }
+
+pub demand2-programs : Demand2Programs
+demand2-programs mask = demand2-by (λ l. mask)
 
 -- contents that agree on in and inout arrays: a cell that is written, or on which they agree, ends alike
 module _ (l : Listed) (p : allowed l ≡ true) {S : Type 0} (m : Meaning S) (h g : Content S) (shared : Shared l h g) where

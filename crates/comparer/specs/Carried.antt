@@ -14,10 +14,11 @@ use Rattle.unroller.specs.Decode.{decode}
 use Rattle.unroller.specs.Unroll.{unrolled}
 use Rattle.unroller.specs.Executed.{Origin}
 use Rattle.unroller.specs.Traced.{stretchOf, WrittenAt}
-use Rattle.comparer.specs.Entry.{enough, entryReply, wordsReply, programsReply, allBits, leftIn, rightIn, inputReply}
+use Rattle.comparer.specs.Entry.{enough, entryReply, wordsReply, programsReply, plainReply, allBits, leftIn, rightIn, inputMasked, inputReply}
 use Rattle.comparer.specs.Explain.{explanation}
 use Rattle.comparer.specs.Line.{lineOf}
 use Rattle.comparer.specs.Writing.{Holds}
+use Rattle.comparer.specs.Told.{Told, ToldOut}
 use Rattle.comparer.specs.Order.{NewOrder, reorder}
 use Rattle.comparer.specs.Rows.{Row, framed, starred}
 use Rattle.comparer.specs.Claims.{ToldOf, Beside, SameValues}
@@ -34,13 +35,19 @@ use Rattle.comparer.specs.declared.reply.Reply.the-variants.{Equal}
 abbrev pub ListsAnswered : Type 1
 ListsAnswered =
     (mask : ℕ) (one other : List ℕ) (cells terms : ℕ) (r : Reply) → replySays r ≡ wordsReply mask one other cells terms → isRefused (replySays r) ≡ false
-    → ToldOf mask (λ w l. decode w ≡ some l) one other (replySays r)
+    → ToldOf (Told mask) (λ w l. decode w ≡ some l) one other (replySays r)
 
 -- Demand 2, for what `compare_programs_masked` and `compare_programs` answer.
 abbrev pub ProgramsAnswered : Type 1
 ProgramsAnswered =
     (long : Bool) (mask : ℕ) (one other : List ℕ) (r : Reply) → replySays r ≡ entryReply long (programsReply mask one other) → isRefused (replySays r) ≡ false
-    → ToldOf mask (λ p l. unrolled p ≡ ok l) one other (replySays r)
+    → ToldOf (Told mask) (λ p l. unrolled p ≡ ok l) one other (replySays r)
+
+-- Demand 2, for an answer of the plain comparison: over the out arrays.
+abbrev pub PlainAnswered : Type 1
+PlainAnswered =
+    (long : Bool) (one other : List ℕ) (r : Reply) → replySays r ≡ entryReply long (plainReply one other) → isRefused (replySays r) ≡ false
+    → ToldOf ToldOut (λ p l. unrolled p ≡ ok l) one other (replySays r)
 
 -- Demand 3, for what `compare_lists` answers: of an accepted list and of any new order, beside any third slice, on either side.
 abbrev pub ReorderedAnswered : Type 0
@@ -61,7 +68,13 @@ BesideAnswered =
 abbrev pub InputAnswered : Type 1
 InputAnswered =
     (long : Bool) (s : List ℕ) (r : Reply) → replySays r ≡ entryReply long (inputReply s) → isRefused (replySays r) ≡ false
-    → ToldOf allBits (λ p l. unrolled p ≡ ok l) (leftIn s) (rightIn s) (replySays r)
+    → ToldOf (Told allBits) (λ p l. unrolled p ≡ ok l) (leftIn s) (rightIn s) (replySays r)
+
+-- Demand 2, for an answer to framed input under a mask.
+abbrev pub MaskedAnswered : Type 1
+MaskedAnswered =
+    (long : Bool) (mask : ℕ) (s : List ℕ) (r : Reply) → replySays r ≡ entryReply long (inputMasked mask s) → isRefused (replySays r) ≡ false
+    → ToldOf (Told mask) (λ p l. unrolled p ≡ ok l) (leftIn s) (rightIn s) (replySays r)
 
 -- An "equal" of `compare_input` implies equal values for every content and every meaning that respects the marks.
 abbrev pub EqualAnswered : Type 1

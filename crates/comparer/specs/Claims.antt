@@ -1,14 +1,16 @@
 -- Every promise of the product about its definitions, each as a named type. README.md says where each is proved.
 -- That each entry's code meets these definitions is its contract.
-use Prim.Native.Nat.{ℕ, suc, _+_, _*_, _/_, _%_, _≤_, _<_}
+use Prim.Native.Nat.{ℕ, suc, _+_, _*_, _/_, _%_, _^_, _≤_, _<_}
 use mathlib.Core.Path.{_≡_}
 use mathlib.Core.Logic.{_⊎_, _↔_}
 use mathlib.Core.List.{List, [], _∷_, _++_, map}
-use mathlib.Core.Bool.{Bool, true, false}
+use mathlib.Core.Bool.{Bool, true, false, not}
 use mathlib.Core.Option.{some}
 use lib.ListN.{length, getD, take}
+use lib.Dec.{eqb}
 use lib.IntN.{ℤ, _*ℤ_, natAbs}
 use Rattle.model.specs.Test.{every, total}
+use Rattle.model.specs.Tables.{Array}
 use Rattle.model.specs.Update.{Tree, Listed, written}
 use Rattle.model.specs.Update.Tree.{cell}
 use Rattle.model.specs.Reply.{Reply, equal, differs, refused, isRefused, Side, left, right, both}
@@ -28,15 +30,15 @@ use Rattle.unroller.specs.Executed.{Origin}
 use Rattle.unroller.specs.Traced.{Traced, WrittenAt}
 use Rattle.comparer.specs.Meaning.{Meaning, Respects, Content, valueOf, after, free, values}
 use Rattle.comparer.specs.Match.{comparedSize, swapping, given, listsReply}
-use Rattle.comparer.specs.Entry.{enough, entryReply, wordsReply, sideReply, programsReply, allBits, leftIn, rightIn, inputReply}
+use Rattle.comparer.specs.Entry.{enough, entryReply, wordsReply, sideReply, programsBy, programsReply, allBits, outMask, plainReply, leftIn, rightIn, inputMasked, inputReply}
 use Rattle.comparer.specs.Explain as Explain
-use Rattle.comparer.specs.Explain.{Chosen, chosen, Explanation, plain, explained, explanation, inputExplanation}
+use Rattle.comparer.specs.Explain.{Chosen, chosen, Explanation, plain, explained, explanation, inputMaskedExplanation, inputExplanation}
 use Rattle.comparer.specs.Batch as Batch
 use Rattle.comparer.specs.Batch.{Pair, pairs, mostPairs, begun, replyOf, replies, totals, batchText}
 use Rattle.comparer.specs.BatchSteps.{noTotals, turns, looked}
 use Rattle.comparer.specs.Line.{lineOf}
 use Rattle.comparer.specs.ExplainLine.{explanationLine}
-use Rattle.comparer.specs.Told.{Compared, Shared, Agree, Earlier, Told}
+use Rattle.comparer.specs.Told.{Compared, Shared, Agree, Earlier, Told, ToldOut}
 use Rattle.comparer.specs.Order.{NewOrder, reorder}
 use Rattle.comparer.specs.Rows.{Row, framed, starred, marked, ExplainedRow, explainedPairs}
 
@@ -46,29 +48,61 @@ abbrev pub Demand2Lists : Type 1
 Demand2Lists = (mask : ℕ) (l r : Listed) → allowed l ≡ true → allowed r ≡ true → isRefused (listsReply mask l r) ≡ false → Told mask l r (listsReply mask l r)
 
 -- two slices that hold lists, and a reply that is told of these lists
-pub record ToldOf (mask : ℕ) (from : List ℕ → Listed → Type 0) (one other : List ℕ) (reply : Reply) : Type 1 where
+pub record ToldOf (Tells : Listed → Listed → Reply → Type 1) (from : List ℕ → Listed → Type 0) (one other : List ℕ) (reply : Reply) : Type 1 where
   pub l : Listed
   pub r : Listed
   pub isLeft : from one l
   pub isRight : from other r
-  pub told : Told mask l r reply
+  pub told : Tells l r reply
 
 -- Demand 2 at the list entry, for any words and slice lengths.
 abbrev pub Demand2Words : Type 1
 Demand2Words =
     (mask : ℕ) (one other : List ℕ) (cells terms : ℕ) → isRefused (wordsReply mask one other cells terms) ≡ false
-    → ToldOf mask (λ w l. decode w ≡ some l) one other (wordsReply mask one other cells terms)
+    → ToldOf (Told mask) (λ w l. decode w ≡ some l) one other (wordsReply mask one other cells terms)
 
 -- Demand 2 for programs, for any bytes.
 abbrev pub Demand2Programs : Type 1
 Demand2Programs =
     (mask : ℕ) (one other : List ℕ) → isRefused (programsReply mask one other) ≡ false
-    → ToldOf mask (λ p l. unrolled p ≡ ok l) one other (programsReply mask one other)
+    → ToldOf (Told mask) (λ p l. unrolled p ≡ ok l) one other (programsReply mask one other)
 
--- Demand 2 for standard input: whatever it holds, if it is not refused.
+-- Demand 2 for the plain entry, for any bytes: over the elements of the out arrays, and no others.
+abbrev pub Demand2Plain : Type 1
+Demand2Plain =
+    (one other : List ℕ) → isRefused (plainReply one other) ≡ false → ToldOf ToldOut (λ p l. unrolled p ≡ ok l) one other (plainReply one other)
+
+-- Demand 2 for standard input: whatever it holds, if it is not refused. With all bits set,
 abbrev pub Demand2Input : Type 1
 Demand2Input =
-    (s : List ℕ) → isRefused (inputReply s) ≡ false → ToldOf allBits (λ p l. unrolled p ≡ ok l) (leftIn s) (rightIn s) (inputReply s)
+    (s : List ℕ) → isRefused (inputReply s) ≡ false → ToldOf (Told allBits) (λ p l. unrolled p ≡ ok l) (leftIn s) (rightIn s) (inputReply s)
+
+-- and under any mask.
+abbrev pub Demand2Masked : Type 1
+Demand2Masked =
+    (mask : ℕ) (s : List ℕ) → isRefused (inputMasked mask s) ≡ false
+    → ToldOf (Told mask) (λ p l. unrolled p ≡ ok l) (leftIn s) (rightIn s) (inputMasked mask s)
+
+-- The plain entry replies as the masked one does under the bits of the out arrays.
+abbrev pub PlainMasked : Type 0
+PlainMasked = (one other : List ℕ) (l : Listed) → unrolled one ≡ ok l → plainReply one other ≡ programsReply (outMask l) one other
+
+-- A program without inout arrays gets the reply that all bits give.
+abbrev pub PlainWithoutInout : Type 0
+PlainWithoutInout =
+    (one other : List ℕ) (l : Listed) → unrolled one ≡ ok l → every (λ (x : Array). not (eqb (x .role) 2)) (l .tables .arrays) ≡ true
+    → plainReply one other ≡ programsReply allBits one other
+
+-- What is compared decides no refusal: the plain entry and every mask refuse the same pairs, at the same place.
+abbrev pub RefusedAlike : Type 0
+RefusedAlike =
+    (mask : ℕ) (one other : List ℕ) (s : Side) (k p : ℕ) → (plainReply one other ≡ refused s k p) ↔ (programsReply mask one other ≡ refused s k p)
+
+-- The first difference stays the first where its array alone is compared, so a mask of one bit explains it.
+abbrev pub OneBit : Type 0
+OneBit =
+    (one other : List ℕ) (a e : ℕ) → ((mask : ℕ) → programsReply mask one other ≡ differs a e → programsReply (2 ^ a) one other ≡ differs a e)
+    × (plainReply one other ≡ differs a e → programsReply (2 ^ a) one other ≡ differs a e)
 
 -- What a new order keeps: accepted, as long; for every meaning, and two contents that are the same on in and inout arrays, the same
 -- value in each cell that is written or in which the contents are the same; the same reply beside any third slice, on either side,
@@ -147,12 +181,12 @@ Question21 = (bytes : List ℕ) (p : Program) (next : ℕ) → readProgram bytes
 -- and every reply to two programs is what it was.
 abbrev pub RepliesWithout21 : Type 0
 RepliesWithout21 =
-    (mask : ℕ) (one other : List ℕ)
-    → sideReply left (Asking.unrolled one) (λ x. sideReply right (Asking.unrolled other) (λ y. listsReply mask x y)) ≡ programsReply mask one other
+    (mask : Listed → ℕ) (one other : List ℕ)
+    → sideReply left (Asking.unrolled one) (λ x. sideReply right (Asking.unrolled other) (λ y. listsReply (mask x) x y)) ≡ programsBy mask one other
 
--- No input is answered otherwise for being cut behind byte 32,771, which is what the program reads.
+-- No input is answered otherwise for being cut behind byte 32,771, which is what the programs read, behind a mask or without one.
 abbrev pub InputCut : Type 0
-InputCut = (s : List ℕ) → inputReply (take 32771 s) ≡ inputReply s
+InputCut = (s : List ℕ) → (inputReply (take 32771 s) ≡ inputReply s) × ((mask : ℕ) → inputMasked mask (take 32771 s) ≡ inputMasked mask s)
 
 -- For readers: an "equal" to framed input means that the two programs in it run, and leave the same value in each compared
 -- element for every starting content and every meaning that respects the marks, with no other hypothesis.
@@ -273,14 +307,23 @@ RefusedExplained =
     × ((entryReply long (programsReply mask one other) ≡ Reply.refused s k p)
     ⊎ ((n : ℕ) × (entryReply long (programsReply mask one other) ≡ equal n) × (s ≡ both) × (k ≡ 27) × (p ≡ 0)))
 
--- Of framed input that is not refused, the explanation is that of its two programs.
+-- Of framed input that is not refused, the explanation is that of its two programs: with all bits set,
 abbrev pub InputExplained : Type 0
 InputExplained =
     (long : Bool) (side : Chosen) (s : List ℕ) → isRefused (inputReply s) ≡ false → inputExplanation long side s ≡ explanation long allBits side (leftIn s) (rightIn s)
 
--- No input is explained otherwise for being cut behind byte 32,771, which is what the program reads.
+-- and under any mask.
+abbrev pub MaskedExplained : Type 0
+MaskedExplained =
+    (long : Bool) (mask : ℕ) (side : Chosen) (s : List ℕ) → isRefused (inputMasked mask s) ≡ false
+    → inputMaskedExplanation long mask side s ≡ explanation long mask side (leftIn s) (rightIn s)
+
+-- No input is explained otherwise for being cut behind byte 32,771, which is what the programs read, behind a mask or without one.
 abbrev pub ExplainedCut : Type 0
-ExplainedCut = (long : Bool) (side : Chosen) (s : List ℕ) → inputExplanation long side (take 32771 s) ≡ inputExplanation long side s
+ExplainedCut =
+    (long : Bool) (side : Chosen) (s : List ℕ)
+    → (inputExplanation long side (take 32771 s) ≡ inputExplanation long side s)
+    × ((mask : ℕ) → inputMaskedExplanation long mask side (take 32771 s) ≡ inputMaskedExplanation long mask side s)
 
 -- Known pairs explained, each with its line as docs/FORMAT.md prints it.
 abbrev pub ExplainedRows : Type 0
@@ -333,7 +376,7 @@ pub record ToldPair (p : Pair) : Type 1 where
   pub one : List ℕ
   pub other : List ℕ
   pub isPair : p ≡ Batch.whole one other
-  pub told : ToldOf allBits (λ q l. unrolled q ≡ ok l) one other (replyOf p)
+  pub told : ToldOf (Told allBits) (λ q l. unrolled q ≡ ok l) one other (replyOf p)
 
 abbrev pub Demand2Batch : Type 1
 Demand2Batch = (s : List ℕ) (earlier later : List Pair) (p : Pair) → begun s ≡ earlier ++ p ∷ later → isRefused (replyOf p) ≡ false → ToldPair p

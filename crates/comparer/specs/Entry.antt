@@ -13,7 +13,7 @@ use Rattle.reader.specs.Field.{littleEndian}
 use Rattle.unroller.specs.Run.{Ran, ok, stop}
 use Rattle.unroller.specs.Decode.{decode}
 use Rattle.unroller.specs.Unroll.{unrolled}
-use Rattle.comparer.specs.Match.{listsReply}
+use Rattle.comparer.specs.Match.{outBits, listsReply}
 
 -- 26 of the left, 26 of the right, then 22 to 24
 abbrev pub decodedReply : ℕ → Option Listed → Option Listed → Reply
@@ -41,13 +41,24 @@ abbrev pub sideReply : Side → Ran Listed → (Listed → Reply) → Reply
 sideReply side (ok l) next = next l
 sideReply side (stop question place) next = refused side question place
 
--- 2 to 20 of the left, then of the right, then 22 to 24
-unfoldable pub programsReply : ℕ → List ℕ → List ℕ → Reply
-programsReply mask l r = sideReply left (unrolled l) (λ x. sideReply right (unrolled r) (λ y. listsReply mask x y))
+-- 2 to 20 of the left, then of the right, then 22 to 24, under a mask that the left's list may tell
+unfoldable pub programsBy : (Listed → ℕ) → List ℕ → List ℕ → Reply
+programsBy mask l r = sideReply left (unrolled l) (λ x. sideReply right (unrolled r) (λ y. listsReply (mask x) x y))
 
--- the plain entry sets all bits
+-- under this mask
+abbrev pub programsReply : ℕ → List ℕ → List ℕ → Reply
+programsReply mask = programsBy (λ x. mask)
+
+-- the mask of standard input, with all bits set
 abbrev pub allBits : ℕ
 allBits = 65535
+
+-- the plain comparison is over the out arrays, which behind 22 are those of both sides
+abbrev pub outMask : Listed → ℕ
+outMask l = outBits (l .tables .arrays)
+
+abbrev pub plainReply : List ℕ → List ℕ → Reply
+plainReply = programsBy outMask
 
 -- the two programs of a framed input: behind the left length, so many bytes, and the rest
 abbrev pub leftIn : List ℕ → List ℕ
@@ -57,12 +68,19 @@ abbrev pub rightIn : List ℕ → List ℕ
 rightIn s = drop (littleEndian 2 s 0) (drop 2 s)
 
 -- the bytes behind the left length, which is n
-abbrev pub framedReply : ℕ → List ℕ → Reply
-framedReply n s =
+abbrev pub framedReply : (Listed → ℕ) → ℕ → List ℕ → Reply
+framedReply mask n s =
     if leb n 16384
-    then (if leb n (length s) then programsReply allBits (take n s) (drop n s) else refused input 1 0)
+    then (if leb n (length s) then programsBy mask (take n s) (drop n s) else refused input 1 0)
     else refused left 2 0
 
 -- Does the input hold the left length and, if it is at most 16,384, so many bytes? 1. Is the left at most 16,384 bytes, as stated? 2
-unfoldable pub inputReply : List ℕ → Reply
-inputReply s = if leb 2 (length s) then framedReply (littleEndian 2 s 0) (drop 2 s) else refused input 1 0
+unfoldable pub inputBy : (Listed → ℕ) → List ℕ → Reply
+inputBy mask s = if leb 2 (length s) then framedReply mask (littleEndian 2 s 0) (drop 2 s) else refused input 1 0
+
+-- under this mask
+abbrev pub inputMasked : ℕ → List ℕ → Reply
+inputMasked mask = inputBy (λ x. mask)
+
+abbrev pub inputReply : List ℕ → Reply
+inputReply = inputMasked allBits

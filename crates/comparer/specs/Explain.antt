@@ -5,11 +5,12 @@ use mathlib.Core.Bool.{Bool}
 use mathlib.Core.Option.{Option, none, some}
 use lib.ListN.{length}
 use lib.IntN.{ℤ, pos}
+use Rattle.model.specs.Update.{Listed}
 use Rattle.model.specs.Reply as model
 use Rattle.model.specs.Reply.{Side, both}
 use Rattle.reader.specs.Entries.{padded}
 use Rattle.unroller.specs.Executed.{Origin, originOf}
-use Rattle.comparer.specs.Entry.{entryReply, programsReply, leftIn, rightIn, inputReply}
+use Rattle.comparer.specs.Entry.{entryReply, programsReply, allBits, leftIn, rightIn, inputBy}
 
 -- the side that a caller asks about
 pub data Chosen : Type 0 where
@@ -52,6 +53,13 @@ byReply origin (model.refused s k p) = plain (refused s k p)
 unfoldable pub explanation : Bool → ℕ → Chosen → List ℕ → List ℕ → Explanation
 explanation long mask side l r = byReply (originOf (chosen side l r)) (entryReply long (programsReply mask l r))
 
--- the same of framed input, with all bits set
-unfoldable pub inputExplanation : Bool → Chosen → List ℕ → Explanation
-inputExplanation long side s = byReply (originOf (chosen side (leftIn s) (rightIn s))) (entryReply long (inputReply s))
+-- the same of framed input, under a mask that the left's list may tell
+unfoldable pub inputExplanationBy : (Listed → ℕ) → Bool → Chosen → List ℕ → Explanation
+inputExplanationBy mask long side s = byReply (originOf (chosen side (leftIn s) (rightIn s))) (entryReply long (inputBy mask s))
+
+-- under this mask, and with all bits set
+abbrev pub inputMaskedExplanation : Bool → ℕ → Chosen → List ℕ → Explanation
+inputMaskedExplanation long mask = inputExplanationBy (λ x. mask) long
+
+abbrev pub inputExplanation : Bool → Chosen → List ℕ → Explanation
+inputExplanation long = inputMaskedExplanation long allBits

@@ -1,5 +1,5 @@
 -- The match of two update lists (docs/FORMAT.md, "The match"), with questions 22 to 24.
-use Prim.Native.Nat.{ℕ, zero, suc, _+_, _/_, _%_, _^_}
+use Prim.Native.Nat.{ℕ, zero, suc, _+_, _*_, _/_, _%_, _^_}
 use mathlib.Core.List.{List, [], _∷_, _++_}
 use mathlib.Core.Bool.{Bool, true, false, _&&_, _||_, cond}
 use lib.Dec.{leb, eqb}
@@ -21,6 +21,15 @@ compared mask a x = (eqb (x .role) 1 || eqb (x .role) 2) && bit mask a
 abbrev pub comparedSize : ℕ → ℕ → List Array → ℕ
 comparedSize mask a [] = 0
 comparedSize mask a (x ∷ xs) = cond (compared mask a x) (cells (x .extents)) 0 + comparedSize mask (suc a) xs
+
+-- an out array
+abbrev pub out : Array → Bool
+out x = eqb (x .role) 1
+
+-- the mask in which the bits of the out arrays are set, and no others
+unfoldable pub outBits : List Array → ℕ
+outBits [] = 0
+outBits (x ∷ xs) = cond (out x) 1 0 + 2 * outBits xs
 
 -- the first of n cells, from c on, that does not agree, or `otherwise`
 abbrev pub firstCell : ℕ → ℕ → (ℕ → Bool) → (ℕ → Reply) → Reply → Reply
