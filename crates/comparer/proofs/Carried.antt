@@ -6,7 +6,7 @@ use mathlib.Core.List.{List, _∷_, map, List·Memᴰ, List·Memᴰ·head, List�
 use Rattle.model.specs.Update.{Listed}
 use Rattle.model.specs.Reply as model
 use Rattle.model.specs.Reply.{isRefused, equal}
-use Rattle.comparer.specs.Entry.{entryReply, programsReply, plainReply, allBits, leftIn, rightIn, inputMasked, inputReply}
+use Rattle.comparer.specs.Entry.{entryReply, programsReply, plainReply, leftIn, rightIn, inputMasked, inputReply}
 use Rattle.comparer.specs.Line.{lineOf}
 use Rattle.comparer.specs.Rows.{Row, framed, starred}
 use Rattle.comparer.specs.Told.{Told, ToldOut}
@@ -49,7 +49,7 @@ beside-answered old l e order h mask cells terms n r =
     (λ q. subst (Beside mask l) (sym q) (b .0), λ q. subst (Beside mask l) (sym q) (b .1))
 
 pub input-answered : InputAnswered
-input-answered long s = answered (Told allBits) _ (leftIn s) (rightIn s) (inputReply s) (demand2-input s) long
+input-answered long s = answered ToldOut _ (leftIn s) (rightIn s) (inputReply s) (demand2-input s) long
 
 pub masked-answered : MaskedAnswered
 masked-answered long mask s = answered (Told mask) _ (leftIn s) (rightIn s) (inputMasked mask s) (demand2-masked mask s) long

@@ -22,7 +22,7 @@ use Rattle.unroller.specs.Run.{Ran, ok, stop}
 use Rattle.unroller.specs.Executed.{Origin, originOf}
 use Rattle.unroller.specs.Traced.{stretchOf}
 use Rattle.unroller.proofs.Executed.{traces, written-at, never-written}
-use Rattle.comparer.specs.Entry.{entryReply, programsBy, programsReply, allBits, leftIn, rightIn, inputBy}
+use Rattle.comparer.specs.Entry.{entryReply, programsBy, programsReply, outMask, leftIn, rightIn, inputBy}
 use Rattle.comparer.specs.Explain as Explain
 use Rattle.comparer.specs.Explain.{Chosen, rightSide, chosen, Answer, Explanation, plain, explained, byReply, explanation, inputExplanationBy}
 use Rattle.comparer.specs.Claims.{TracedUpdates, WrittenIs, WrittenExplained, StartingIs, StartingExplained, UnwrittenExplained, RefusedExplained, InputExplained, MaskedExplained, ExplainedCut}
@@ -34,6 +34,7 @@ use Rattle.comparer.specs.declared.explanation.Answer as given
 use Rattle.comparer.specs.declared.explanation.Answer.the-variants as answer
 use Rattle.comparer.specs.declared.explanation.Explanation.{Explanation as Given}
 use Rattle.comparer.proofs.Input.{too-long, cut-by, unrefused}
+use Rattle.comparer.proofs.Plain.{plain-masked}
 use Rattle.comparer.proofs.Explains.{differs-unrolls}
 
 pub traced-updates : TracedUpdates
@@ -143,7 +144,7 @@ unfolding inputExplanationBy explanation
 input-by mask n long side s h e = ap (λ (m : Reply). byReply (originOf (chosen side (leftIn s) (rightIn s))) (entryReply long m)) (unrefused mask s h ∙ e)
 
 pub input-explained : InputExplained
-input-explained long side s h = input-by (λ x. allBits) allBits long side s h refl
+input-explained long side s l u h = input-by outMask (outMask l) long side s h (plain-masked (leftIn s) (rightIn s) l u)
 
 pub masked-explained : MaskedExplained
 masked-explained long mask side s h = input-by (λ x. mask) mask long side s h refl
@@ -182,7 +183,7 @@ cut-explained mask long side s =
     go true (differs a e) h = ap (λ (s : List ℕ). explained a e (originOf (chosen side (leftIn s) (rightIn s)) a e)) (take-all 32771 s (differs-short mask s a e h))
 
 pub explained-cut : ExplainedCut
-explained-cut long side s = (cut-explained (λ x. allBits) long side s, λ mask. cut-explained (λ x. mask) long side s)
+explained-cut long side s = (cut-explained outMask long side s, λ mask. cut-explained (λ x. mask) long side s)
 
 -- ---- carried to what the code answers
 now-chosen : (x : code.Chosen) (one other : RefT (List ℕ)) → now (chosenOf x one other) ≡ chosenOf x (now one) (now other)

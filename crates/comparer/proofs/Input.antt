@@ -15,11 +15,12 @@ use Rattle.reader.specs.Field.{littleEndian, no}
 use Rattle.reader.specs.Grammar.{readProgram}
 use Rattle.unroller.specs.Run.{ok, stop}
 use Rattle.unroller.specs.Unroll.{unrolled}
-use Rattle.comparer.specs.Entry.{programsBy, allBits, leftIn, rightIn, framedReply, inputBy, inputReply}
-use Rattle.comparer.specs.Told.{Told}
+use Rattle.comparer.specs.Entry.{programsBy, outMask, leftIn, rightIn, framedReply, inputBy, inputReply}
+use Rattle.comparer.specs.Told.{Told, ToldOut}
 use Rattle.comparer.specs.Rows.{framed}
 use Rattle.comparer.specs.Claims.{ToldOf, Demand2Input, Demand2Masked, InputCut, SameValues, EqualInput}
 use Rattle.comparer.proofs.Theorems.{demand2-programs}
+use Rattle.comparer.proofs.Plain.{demand2-plain}
 
 -- a frame around two programs, the left within its limit
 pub framed-programs : (mask : Listed → ℕ) (l r : List ℕ) → length l ≤ 16384 → inputBy mask (framed l r) ≡ programsBy mask l r
@@ -64,7 +65,7 @@ cut-by mask (a ∷ b ∷ t) =
     rw (le-leb 2 (length (take 32771 (a ∷ b ∷ t))) (omega arith), le-leb 2 (length (a ∷ b ∷ t)) (omega arith)) (framed-cut mask (a + 256 * (b + 256 * 0)) t)
 
 pub input-cut : InputCut
-input-cut s = (cut-by (λ x. allBits) s, λ mask. cut-by (λ x. mask) s)
+input-cut s = (cut-by outMask s, λ mask. cut-by (λ x. mask) s)
 
 -- a frame that is not refused is answered as its two programs are
 pub unrefused : (mask : Listed → ℕ) (s : List ℕ) → isRefused (inputBy mask s) ≡ false → inputBy mask s ≡ programsBy mask (leftIn s) (rightIn s)
@@ -92,13 +93,13 @@ told-input mask Tells f s h =
     subst (ToldOf Tells _ (leftIn s) (rightIn s)) (sym e) (f (leftIn s) (rightIn s) (sym (ap isRefused e) ∙ h))
 
 pub demand2-input : Demand2Input
-demand2-input = told-input (λ x. allBits) (Told allBits) (demand2-programs allBits)
+demand2-input = told-input outMask ToldOut demand2-plain
 
 pub demand2-masked : Demand2Masked
 demand2-masked mask = told-input (λ x. mask) (Told mask) (demand2-programs mask)
 
 -- what is told of two programs, where the reply is "equal"
-pub same-values : (one other : List ℕ) (reply : Reply) (n : ℕ) → ToldOf (Told allBits) (λ p l. unrolled p ≡ ok l) one other reply → reply ≡ equal n → SameValues one other n
+pub same-values : (one other : List ℕ) (reply : Reply) (n : ℕ) → ToldOf ToldOut (λ p l. unrolled p ≡ ok l) one other reply → reply ≡ equal n → SameValues one other n
 same-values one other reply n t e =
     let q = t .told .same n .0 e in
     record { l = t .l; r = t .r; isLeft = t .isLeft; isRight = t .isRight; count = q .0; agree = q .1 }

@@ -22,6 +22,7 @@ mod Headers
 mod ListEntries
 mod Clearing
 mod ProgramEntries
+mod Masks
 mod BatchLaws
 pub mod Explains
 pub mod Explanations

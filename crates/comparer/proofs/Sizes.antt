@@ -1,7 +1,7 @@
 -- What the functions over the header's words answer, and that their sums are the bases of the tables.
 use mathlib.Core.Path.{_≡_, refl, sym, ap, ap₂, _∙_, subst}
 use mathlib.Core.Logic.{⊎-elim}
-use mathlib.Core.Bool.{Bool, true, false, _&&_, _||_, and-true, and-false}
+use mathlib.Core.Bool.{Bool, true, false, _&&_, _||_, and-false, or-true}
 use mathlib.Core.List.{List, [], _∷_}
 use Prim.Native.Nat.{ℕ, zero, suc, _+_, _-_, _*_, _/_, _%_, _^_, _≤_, _<_}
 use native.Mathlib.Nat.{eq-or-lt-of-le, mul-one, mul-assoc}
@@ -44,9 +44,13 @@ module _ (list : List ℕ) (mask a : ℕ) where
     unfolding comparedAt
     compared-out o = rw (sym e, eq-eqb (mask / 2 ^ a % 2) 1 h, eq-eqb role 1 o)
 
-    pub compared-inout : (role ≡ 1 → ⊥) → eqb role 2 ≡ comparedAt list mask a
+    pub compared-inout : role ≡ 2 → true ≡ comparedAt list mask a
     unfolding comparedAt
-    compared-inout o = rw (sym e, eq-eqb (mask / 2 ^ a % 2) 1 h, ne-eqb role 1 o) (sym (and-true (eqb role 2)))
+    compared-inout o = rw (sym e, eq-eqb (mask / 2 ^ a % 2) 1 h, eq-eqb role 2 o) (sym (ap (λ (b : Bool). b && true) (or-true (eqb role 1))))
+
+    pub compared-not : (role ≡ 1 → ⊥) → (role ≡ 2 → ⊥) → false ≡ comparedAt list mask a
+    unfolding comparedAt
+    compared-not o p = rw (sym e, eq-eqb (mask / 2 ^ a % 2) 1 h, ne-eqb role 1 o, ne-eqb role 2 p)
 
 -- ---- extent-or-one and size_of
 module _ (used : Bool) (x : ℕ) where

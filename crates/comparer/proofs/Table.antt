@@ -1,7 +1,7 @@
 -- The known rows and the explained ones, computed; and examples that a wrong definition would fail.
 use Prim.Native.Nat.{ℕ}
 use mathlib.Core.Path.{_≡_, refl, ap, ap₂, _∙_}
-use mathlib.Core.List.{List, [], _∷_, map}
+use mathlib.Core.List.{List, [], _∷_, _++_, map}
 use mathlib.Core.Bool.{Bool, true, and-eq-true-iff}
 use lib.ListN.{length}
 use lib.Dec.{leb}
@@ -21,22 +21,27 @@ use Rattle.unroller.specs.Unroll.{unrolled}
 use Rattle.unroller.specs.Executed.{executed, executeds, execution, writesTo, endOf, originOf}
 use Rattle.terms.specs.Term.{turned, alike, alikes, parts, partsOf, termCount}
 use Rattle.comparer.specs.Meaning.{valueOf, valuesOf}
-use Rattle.comparer.specs.Match.{listsReply}
-use Rattle.comparer.specs.Entry.{programsBy, programsReply, allBits, inputBy}
+use Rattle.comparer.specs.Match.{outBits, listsReply}
+use Rattle.comparer.specs.Entry.{programsBy, programsReply, allBits, outMask, plainReply, inputBy}
 use Rattle.comparer.specs.Explain.{explanation}
 use Rattle.comparer.specs.Line.{lineOf}
 use Rattle.comparer.specs.ExplainLine.{explanationLine}
-use Rattle.comparer.specs.Rows.{Row, framed, starred, marked}
-use Rattle.comparer.specs.Claims.{Printed, StarredRows, MarkedRows, ExplainedRows}
+use Rattle.comparer.specs.Rows.{Row, framed, starred, marked, MaskedRow, scratch}
+use Rattle.comparer.specs.Claims.{Printed, StarredRows, MarkedRows, ScratchRows, ExplainedRows}
 use Rattle.comparer.proofs.Input.{framed-programs}
 
-starred-programs : (any : List ℕ) → map (λ (x : Row). lineOf (programsReply allBits (x .one) (x .other any))) starred ≡ map (λ (x : Row). x .line) starred
-unfolding field byte u16 u32 i8 i16 times Grammar.head swaps operatorIn arityOf Grammar.operatorOf Grammar.operators Grammar.extent Grammar.array Grammar.arrays Grammar.tables Grammar.form Grammar.subscripts Grammar.index Grammar.readOf Grammar.literalOf Grammar.constantOf Grammar.applyOf Grammar.node Grammar.applied Grammar.expression Grammar.statementOf Grammar.step Grammar.loopOf Grammar.guardOf Grammar.items Grammar.itemOf Grammar.nested Grammar.body Grammar.program Grammar.readProgram Run.cellFrom Run.cellAt Run.tree Run.trees count counts Run.readable Run.readables Run.update Run.indices Run.rounds Run.run Run.runs runProgram unrolled turned alike alikes parts partsOf termCount valueOf valuesOf listsReply programsBy lineOf
+starred-programs : (any : List ℕ) → map (λ (x : Row). lineOf (plainReply (x .one) (x .other any))) starred ≡ map (λ (x : Row). x .line) starred
+unfolding field byte u16 u32 i8 i16 times Grammar.head swaps operatorIn arityOf Grammar.operatorOf Grammar.operators Grammar.extent Grammar.array Grammar.arrays Grammar.tables Grammar.form Grammar.subscripts Grammar.index Grammar.readOf Grammar.literalOf Grammar.constantOf Grammar.applyOf Grammar.node Grammar.applied Grammar.expression Grammar.statementOf Grammar.step Grammar.loopOf Grammar.guardOf Grammar.items Grammar.itemOf Grammar.nested Grammar.body Grammar.program Grammar.readProgram Run.cellFrom Run.cellAt Run.tree Run.trees count counts Run.readable Run.readables Run.update Run.indices Run.rounds Run.run Run.runs runProgram unrolled turned alike alikes parts partsOf termCount valueOf valuesOf outBits listsReply programsBy lineOf
 starred-programs any = refl
 
-marked-programs : (any : List ℕ) → map (λ (x : Row). lineOf (programsReply allBits (x .one) (x .other any))) marked ≡ map (λ (x : Row). x .line) marked
-unfolding field byte u16 u32 i8 i16 times Grammar.head swaps operatorIn arityOf Grammar.operatorOf Grammar.operators Grammar.extent Grammar.array Grammar.arrays Grammar.tables Grammar.form Grammar.subscripts Grammar.index Grammar.readOf Grammar.literalOf Grammar.constantOf Grammar.applyOf Grammar.node Grammar.applied Grammar.expression Grammar.statementOf Grammar.step Grammar.loopOf Grammar.guardOf Grammar.items Grammar.itemOf Grammar.nested Grammar.body Grammar.program Grammar.readProgram Run.cellFrom Run.cellAt Run.tree Run.trees count counts Run.readable Run.readables Run.update Run.indices Run.rounds Run.run Run.runs runProgram unrolled turned alike alikes swapsAt parts partsOf termCount valueOf valuesOf listsReply programsBy lineOf
+marked-programs : (any : List ℕ) → map (λ (x : Row). lineOf (plainReply (x .one) (x .other any))) marked ≡ map (λ (x : Row). x .line) marked
+unfolding field byte u16 u32 i8 i16 times Grammar.head swaps operatorIn arityOf Grammar.operatorOf Grammar.operators Grammar.extent Grammar.array Grammar.arrays Grammar.tables Grammar.form Grammar.subscripts Grammar.index Grammar.readOf Grammar.literalOf Grammar.constantOf Grammar.applyOf Grammar.node Grammar.applied Grammar.expression Grammar.statementOf Grammar.step Grammar.loopOf Grammar.guardOf Grammar.items Grammar.itemOf Grammar.nested Grammar.body Grammar.program Grammar.readProgram Run.cellFrom Run.cellAt Run.tree Run.trees count counts Run.readable Run.readables Run.update Run.indices Run.rounds Run.run Run.runs runProgram unrolled turned alike alikes swapsAt parts partsOf termCount valueOf valuesOf outBits listsReply programsBy lineOf
 marked-programs any = refl
+
+scratch-programs :
+    map (λ (x : MaskedRow). lineOf (plainReply (x .one) (x .other)) ++ lineOf (programsReply (x .mask) (x .one) (x .other))) scratch ≡ map (λ (x : MaskedRow). x .lines) scratch
+unfolding field byte u16 u32 i8 i16 times Grammar.head swaps operatorIn arityOf Grammar.operatorOf Grammar.operators Grammar.extent Grammar.array Grammar.arrays Grammar.tables Grammar.form Grammar.subscripts Grammar.index Grammar.readOf Grammar.literalOf Grammar.constantOf Grammar.applyOf Grammar.node Grammar.applied Grammar.expression Grammar.statementOf Grammar.step Grammar.loopOf Grammar.guardOf Grammar.items Grammar.itemOf Grammar.nested Grammar.body Grammar.program Grammar.readProgram Run.cellFrom Run.cellAt Run.tree Run.trees count counts Run.readable Run.readables Run.update Run.indices Run.rounds Run.run Run.runs runProgram unrolled turned alike alikes swapsAt parts partsOf termCount valueOf valuesOf outBits listsReply programsBy lineOf
+scratch-programs = refl
 
 -- a frame around a left side within its limit
 within-limit : List ℕ → Bool
@@ -54,8 +59,8 @@ map-same {B = B} f g p (x ∷ xs) e h =
 
 -- enough for a row whose left side is within its limit
 printed : (rows : List Row) → every (λ (x : Row). within-limit (x .one)) rows ≡ true
-    → ((any : List ℕ) → map (λ (x : Row). lineOf (programsReply allBits (x .one) (x .other any))) rows ≡ map (λ (x : Row). x .line) rows) → Printed rows
-printed rows e f any = map-same _ _ (λ (x : Row). within-limit (x .one)) rows e (λ x p. framed-is (λ l. allBits) (x .one) (x .other any) p) ∙ f any
+    → ((any : List ℕ) → map (λ (x : Row). lineOf (plainReply (x .one) (x .other any))) rows ≡ map (λ (x : Row). x .line) rows) → Printed rows
+printed rows e f any = map-same _ _ (λ (x : Row). within-limit (x .one)) rows e (λ x p. framed-is outMask (x .one) (x .other any) p) ∙ f any
 
 pub starred-rows : StarredRows
 unfolding within-limit
@@ -65,8 +70,15 @@ pub marked-rows : MarkedRows
 unfolding within-limit
 marked-rows = printed marked refl marked-programs
 
+pub scratch-rows : ScratchRows
+unfolding within-limit
+scratch-rows =
+    map-same _ _ (λ (x : MaskedRow). within-limit (x .one)) scratch refl
+    (λ x p. ap₂ (λ (k m : List ℕ). k ++ m) (framed-is outMask (x .one) (x .other) p) (framed-is (λ l. x .mask) (x .one) (x .other) p))
+    ∙ scratch-programs
+
 pub explained-rows : ExplainedRows
-unfolding field byte u16 u32 i8 i16 times Grammar.head swaps operatorIn arityOf Grammar.operatorOf Grammar.operators Grammar.extent Grammar.array Grammar.arrays Grammar.tables Grammar.form Grammar.subscripts Grammar.index Grammar.readOf Grammar.literalOf Grammar.constantOf Grammar.applyOf Grammar.node Grammar.applied Grammar.expression Grammar.statementOf Grammar.step Grammar.loopOf Grammar.guardOf Grammar.items Grammar.itemOf Grammar.nested Grammar.body Grammar.program Grammar.readProgram Run.cellFrom Run.cellAt Run.tree Run.trees count counts Run.readable Run.readables Run.update Run.indices Run.rounds Run.run Run.runs runProgram unrolled turned alike alikes parts partsOf termCount valueOf valuesOf listsReply programsBy lineOf explanation originOf endOf writesTo execution executed executeds explanationLine
+unfolding field byte u16 u32 i8 i16 times Grammar.head swaps operatorIn arityOf Grammar.operatorOf Grammar.operators Grammar.extent Grammar.array Grammar.arrays Grammar.tables Grammar.form Grammar.subscripts Grammar.index Grammar.readOf Grammar.literalOf Grammar.constantOf Grammar.applyOf Grammar.node Grammar.applied Grammar.expression Grammar.statementOf Grammar.step Grammar.loopOf Grammar.guardOf Grammar.items Grammar.itemOf Grammar.nested Grammar.body Grammar.program Grammar.readProgram Run.cellFrom Run.cellAt Run.tree Run.trees count counts Run.readable Run.readables Run.update Run.indices Run.rounds Run.run Run.runs runProgram unrolled turned alike alikes parts partsOf termCount valueOf valuesOf outBits listsReply programsBy lineOf explanation originOf endOf writesTo execution executed executeds explanationLine
 explained-rows = refl
 
 -- an in array and an out array of two cells each, and an operator of two arguments

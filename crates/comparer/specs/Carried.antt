@@ -14,7 +14,7 @@ use Rattle.unroller.specs.Decode.{decode}
 use Rattle.unroller.specs.Unroll.{unrolled}
 use Rattle.unroller.specs.Executed.{Origin}
 use Rattle.unroller.specs.Traced.{stretchOf, WrittenAt}
-use Rattle.comparer.specs.Entry.{enough, entryReply, wordsReply, programsReply, plainReply, allBits, leftIn, rightIn, inputMasked, inputReply}
+use Rattle.comparer.specs.Entry.{enough, entryReply, wordsReply, programsReply, plainReply, leftIn, rightIn, inputMasked, inputReply}
 use Rattle.comparer.specs.Explain.{explanation}
 use Rattle.comparer.specs.Line.{lineOf}
 use Rattle.comparer.specs.Writing.{Holds}
@@ -37,13 +37,13 @@ ListsAnswered =
     (mask : ℕ) (one other : List ℕ) (cells terms : ℕ) (r : Reply) → replySays r ≡ wordsReply mask one other cells terms → isRefused (replySays r) ≡ false
     → ToldOf (Told mask) (λ w l. decode w ≡ some l) one other (replySays r)
 
--- Demand 2, for what `compare_programs_masked` and `compare_programs` answer.
+-- Demand 2, for what `compare_programs_masked` answers.
 abbrev pub ProgramsAnswered : Type 1
 ProgramsAnswered =
     (long : Bool) (mask : ℕ) (one other : List ℕ) (r : Reply) → replySays r ≡ entryReply long (programsReply mask one other) → isRefused (replySays r) ≡ false
     → ToldOf (Told mask) (λ p l. unrolled p ≡ ok l) one other (replySays r)
 
--- Demand 2, for an answer of the plain comparison: over the out arrays.
+-- Demand 2, for what `compare_programs` answers: over the out arrays.
 abbrev pub PlainAnswered : Type 1
 PlainAnswered =
     (long : Bool) (one other : List ℕ) (r : Reply) → replySays r ≡ entryReply long (plainReply one other) → isRefused (replySays r) ≡ false
@@ -64,13 +64,13 @@ BesideAnswered =
     → (replySays r ≡ wordsReply mask old (layout (reorder l order) (length old)) cells terms → Beside mask l (replySays r))
     × (replySays r ≡ wordsReply mask (layout (reorder l order) (length old)) old cells terms → Beside mask l (replySays r))
 
--- Demand 2, for what `compare_input` answers.
+-- Demand 2, for what `compare_input` answers: over the out arrays.
 abbrev pub InputAnswered : Type 1
 InputAnswered =
     (long : Bool) (s : List ℕ) (r : Reply) → replySays r ≡ entryReply long (inputReply s) → isRefused (replySays r) ≡ false
-    → ToldOf (Told allBits) (λ p l. unrolled p ≡ ok l) (leftIn s) (rightIn s) (replySays r)
+    → ToldOf ToldOut (λ p l. unrolled p ≡ ok l) (leftIn s) (rightIn s) (replySays r)
 
--- Demand 2, for an answer to framed input under a mask.
+-- Demand 2, for what `compare_input_masked` answers.
 abbrev pub MaskedAnswered : Type 1
 MaskedAnswered =
     (long : Bool) (mask : ℕ) (s : List ℕ) (r : Reply) → replySays r ≡ entryReply long (inputMasked mask s) → isRefused (replySays r) ≡ false

@@ -38,9 +38,9 @@ use Rattle.comparer.specs.Batch.{Pair, pairs, mostPairs, begun, replyOf,
 use Rattle.comparer.specs.BatchSteps.{noTotals, turns, looked}
 use Rattle.comparer.specs.Line.{lineOf}
 use Rattle.comparer.specs.ExplainLine.{explanationLine}
-use Rattle.comparer.specs.Told.{Compared, Shared, Agree, Earlier, Told, ToldOut}
+use Rattle.comparer.specs.Told.{Compared, OutElement, outSize, Shared, Agree, Earlier, Told, ToldOut}
 use Rattle.comparer.specs.Order.{NewOrder, reorder}
-use Rattle.comparer.specs.Rows.{Row, framed, starred, marked, ExplainedRow, explainedPairs}
+use Rattle.comparer.specs.Rows.{Row, framed, starred, marked, MaskedRow, scratch, ExplainedRow, explainedPairs}
 
 -- Demand 2 for lists: of two allowed lists, a reply that is no refusal says exactly what every content and every meaning
 -- that respects the marks say.
@@ -72,12 +72,12 @@ abbrev pub Demand2Plain : Type 1
 Demand2Plain =
     (one other : List ℕ) → isRefused (plainReply one other) ≡ false → ToldOf ToldOut (λ p l. unrolled p ≡ ok l) one other (plainReply one other)
 
--- Demand 2 for standard input: whatever it holds, if it is not refused. With all bits set,
+-- Demand 2 for standard input: whatever it holds, if it is not refused. Over the out arrays,
 abbrev pub Demand2Input : Type 1
 Demand2Input =
-    (s : List ℕ) → isRefused (inputReply s) ≡ false → ToldOf (Told allBits) (λ p l. unrolled p ≡ ok l) (leftIn s) (rightIn s) (inputReply s)
+    (s : List ℕ) → isRefused (inputReply s) ≡ false → ToldOf ToldOut (λ p l. unrolled p ≡ ok l) (leftIn s) (rightIn s) (inputReply s)
 
--- and under any mask.
+-- and under a mask.
 abbrev pub Demand2Masked : Type 1
 Demand2Masked =
     (mask : ℕ) (s : List ℕ) → isRefused (inputMasked mask s) ≡ false
@@ -188,15 +188,15 @@ RepliesWithout21 =
 abbrev pub InputCut : Type 0
 InputCut = (s : List ℕ) → (inputReply (take 32771 s) ≡ inputReply s) × ((mask : ℕ) → inputMasked mask (take 32771 s) ≡ inputMasked mask s)
 
--- For readers: an "equal" to framed input means that the two programs in it run, and leave the same value in each compared
--- element for every starting content and every meaning that respects the marks, with no other hypothesis.
+-- For readers: an "equal" to framed input means that the two programs in it run, and leave the same value in each element of an
+-- out array for every starting content and every meaning that respects the marks, with no other hypothesis.
 pub record SameValues (one other : List ℕ) (n : ℕ) : Type 1 where
   pub l : Listed
   pub r : Listed
   pub isLeft : unrolled one ≡ ok l
   pub isRight : unrolled other ≡ ok r
-  pub count : n ≡ comparedSize allBits 0 (l .tables .arrays)
-  pub agree : (a e : ℕ) → Compared allBits l a e → Agree l r a e
+  pub count : n ≡ outSize (l .tables .arrays)
+  pub agree : (a e : ℕ) → OutElement l a e → Agree l r a e
 
 abbrev pub EqualInput : Type 1
 EqualInput = (s : List ℕ) (n : ℕ) → inputReply s ≡ equal n → SameValues (leftIn s) (rightIn s) n
@@ -212,6 +212,12 @@ StarredRows = Printed starred
 -- The rows of program M, whose operator is marked, the same way.
 abbrev pub MarkedRows : Type 0
 MarkedRows = Printed marked
+
+-- Pairs with in, out, inout and local arrays: framed input of each has the row's first line, and its second one under the row's mask.
+abbrev pub ScratchRows : Type 0
+ScratchRows =
+    map (λ (x : MaskedRow). lineOf (inputReply (framed (x .one) (x .other))) ++ lineOf (inputMasked (x .mask) (framed (x .one) (x .other)))) scratch
+    ≡ map (λ (x : MaskedRow). x .lines) scratch
 
 -- The meaning of a term is the meaning of its expression: a value in the free meaning stands for all meanings.
 abbrev pub FreeStandsForAll : Type 1
@@ -307,12 +313,14 @@ RefusedExplained =
     × ((entryReply long (programsReply mask one other) ≡ Reply.refused s k p)
     ⊎ ((n : ℕ) × (entryReply long (programsReply mask one other) ≡ equal n) × (s ≡ both) × (k ≡ 27) × (p ≡ 0)))
 
--- Of framed input that is not refused, the explanation is that of its two programs: with all bits set,
+-- Of framed input that is not refused, the explanation is that of its two programs: of what the plain entry finds, under the bits of the
+-- out arrays,
 abbrev pub InputExplained : Type 0
 InputExplained =
-    (long : Bool) (side : Chosen) (s : List ℕ) → isRefused (inputReply s) ≡ false → inputExplanation long side s ≡ explanation long allBits side (leftIn s) (rightIn s)
+    (long : Bool) (side : Chosen) (s : List ℕ) (l : Listed) → unrolled (leftIn s) ≡ ok l → isRefused (inputReply s) ≡ false
+    → inputExplanation long side s ≡ explanation long (outMask l) side (leftIn s) (rightIn s)
 
--- and under any mask.
+-- and under a mask.
 abbrev pub MaskedExplained : Type 0
 MaskedExplained =
     (long : Bool) (mask : ℕ) (side : Chosen) (s : List ℕ) → isRefused (inputMasked mask s) ≡ false

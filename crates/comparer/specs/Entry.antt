@@ -49,11 +49,11 @@ programsBy mask l r = sideReply left (unrolled l) (λ x. sideReply right (unroll
 abbrev pub programsReply : ℕ → List ℕ → List ℕ → Reply
 programsReply mask = programsBy (λ x. mask)
 
--- the mask of standard input, with all bits set
+-- all bits are set
 abbrev pub allBits : ℕ
 allBits = 65535
 
--- the plain comparison is over the out arrays, which behind 22 are those of both sides
+-- the plain entry compares the out arrays, which behind 22 are those of both sides
 abbrev pub outMask : Listed → ℕ
 outMask l = outBits (l .tables .arrays)
 
@@ -78,9 +78,9 @@ framedReply mask n s =
 unfoldable pub inputBy : (Listed → ℕ) → List ℕ → Reply
 inputBy mask s = if leb 2 (length s) then framedReply mask (littleEndian 2 s 0) (drop 2 s) else refused input 1 0
 
--- under this mask
+-- under this mask, and as the plain entry
 abbrev pub inputMasked : ℕ → List ℕ → Reply
 inputMasked mask = inputBy (λ x. mask)
 
 abbrev pub inputReply : List ℕ → Reply
-inputReply = inputMasked allBits
+inputReply = inputBy outMask

@@ -10,7 +10,7 @@ use Rattle.model.specs.Reply as model
 use Rattle.model.specs.Reply.{Side, both}
 use Rattle.reader.specs.Entries.{padded}
 use Rattle.unroller.specs.Executed.{Origin, originOf}
-use Rattle.comparer.specs.Entry.{entryReply, programsReply, allBits, leftIn, rightIn, inputBy}
+use Rattle.comparer.specs.Entry.{entryReply, programsReply, outMask, leftIn, rightIn, inputBy}
 
 -- the side that a caller asks about
 pub data Chosen : Type 0 where
@@ -57,9 +57,9 @@ explanation long mask side l r = byReply (originOf (chosen side l r)) (entryRepl
 unfoldable pub inputExplanationBy : (Listed → ℕ) → Bool → Chosen → List ℕ → Explanation
 inputExplanationBy mask long side s = byReply (originOf (chosen side (leftIn s) (rightIn s))) (entryReply long (inputBy mask s))
 
--- under this mask, and with all bits set
+-- under this mask, and of the difference that the plain entry finds
 abbrev pub inputMaskedExplanation : Bool → ℕ → Chosen → List ℕ → Explanation
 inputMaskedExplanation long mask = inputExplanationBy (λ x. mask) long
 
 abbrev pub inputExplanation : Bool → Chosen → List ℕ → Explanation
-inputExplanation long = inputMaskedExplanation long allBits
+inputExplanation = inputExplanationBy outMask

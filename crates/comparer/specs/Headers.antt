@@ -1,9 +1,9 @@
--- The tables of two lists, word by word: what the code finds of questions 22 and 23.
-use Prim.Native.Nat.{ℕ, _+_, _*_, _≤_, _<_}
+-- The tables of two lists, word by word: what the code finds of questions 22 and 23, and the bits of the out arrays.
+use Prim.Native.Nat.{ℕ, zero, suc, _+_, _*_, _≤_, _<_}
 use mathlib.Core.Path.{_≡_}
 use mathlib.Core.Logic.{_⊎_}
 use mathlib.Core.List.{List}
-use mathlib.Core.Bool.{true}
+use mathlib.Core.Bool.{true, cond}
 use lib.ListN.{length, getD}
 use lib.Dec.{eqb}
 use Rattle.model.specs.Tables as model
@@ -26,6 +26,11 @@ pub record Counted (list : List ℕ) : Type 0 where
   pub room : 98 ≤ length list
   pub operators : getD list 0 0 ≤ 16
   pub arrays : getD list 17 0 ≤ 16
+
+-- the bits of the out arrays among n from number a on, whose bit is the lowest, by the words of their roles
+unfoldable pub bitsFrom : List ℕ → ℕ → ℕ → ℕ
+bitsFrom list a zero = 0
+bitsFrom list a (suc n) = cond (eqb (getD list (18 + 5 * a) 0) 1) 1 0 + 2 * bitsFrom list (suc a) n
 
 -- n arrays stand before the first local one
 pub record Leads (list : List ℕ) (n : ℕ) : Type 0 where

@@ -1,4 +1,4 @@
--- What becomes of a program: its list in the lent slice, or a refusal.
+-- What becomes of a program: its list in the lent slice, or a refusal; and the mask that its list gives.
 use Prim.Native.Nat.{ℕ, _+_, _*_, _≤_}
 use mathlib.Core.Path.{_≡_}
 use mathlib.Core.List.{List, _++_}
@@ -6,9 +6,21 @@ use lib.ListN.{length, getD, drop, replicate}
 use Rattle.model.specs.Update.{Listed}
 use Rattle.unroller.specs.Run.{ok, stop}
 use Rattle.unroller.specs.Unroll.{unrolled}
+use Rattle.comparer.specs.Entry.{outMask}
 use Rattle.comparer.specs.Asked.{Held}
 use Rattle.comparer.specs.declared.programs.Laid.{Laid}
 use Rattle.comparer.specs.declared.programs.Laid.the-variants as laid
+use Rattle.comparer.specs.declared.programs.Mask.{Mask}
+use Rattle.comparer.specs.declared.programs.Mask.the-variants as mask
+
+-- the mask of a comparison, as the left's list tells it
+abbrev pub maskBy : Mask → Listed → ℕ
+maskBy (mask.Given bits) = λ l. bits
+maskBy mask.Outs = outMask
+
+-- so the code finds it in the list's words
+unfoldable pub Masks : Mask → List ℕ → ℕ → Type 0
+Masks m words bits = (l : Listed) → Held words l → bits ≡ maskBy m l
 
 -- a program's list stands in the slice, or the program is refused
 unfoldable pub Lays : List ℕ → List ℕ → Laid → Type 0

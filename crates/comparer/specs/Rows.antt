@@ -1,4 +1,4 @@
--- The known pairs of docs/FORMAT.md: the ten starred rows, those with marks, and some pairs explained.
+-- The known pairs of docs/FORMAT.md: the ten starred rows, those with marks, those of all roles, and some pairs explained.
 use Prim.Native.Nat.{ℕ, _/_, _%_}
 use mathlib.Core.List.{List, [], _∷_, _++_}
 use lib.ListN.{length, set}
@@ -59,6 +59,33 @@ marked =
     ∷ rowAny (set M 3 1) "refused left 6 6"
     ∷ rowAny (set M 6 0x83) "refused left 6 6"
     ∷ rowAny (set M 3 3) "refused left 5 3" ∷ []
+
+-- program N, of all roles: B[0] = A[0], then C[0] = B[0], where A is in, B inout and C out; a local T is there too
+abbrev pub N : List ℕ
+N =
+    0x41 ∷ 0x4C ∷ 0x50 ∷ 0x01 ∷ 0x00 ∷ 0x00 ∷ 0x04 ∷ 0x00 ∷ 0x01 ∷ 0x02 ∷ 0x00 ∷ 0x02 ∷ 0x01 ∷ 0x01 ∷ 0x00 ∷ 0x01 ∷ 0x01 ∷ 0x01 ∷ 0x00 ∷ 0x03
+    ∷ 0x01 ∷ 0x01 ∷ 0x00 ∷ 0x01 ∷ 0x01 ∷ 0x00 ∷ 0x00 ∷ 0x10 ∷ 0x00 ∷ 0x00 ∷ 0x00 ∷ 0x01 ∷ 0x02 ∷ 0x00 ∷ 0x00 ∷ 0x10 ∷ 0x01 ∷ 0x00 ∷ 0x00 ∷ 0x00 ∷ []
+
+-- a pair, a mask, and the line that the plain entry prints, then that under the mask, with their ends
+pub record MaskedRow : Type 0 where
+  pub one : List ℕ
+  pub other : List ℕ
+  pub mask : ℕ
+  pub lines : List ℕ
+
+abbrev pub rowMasked : List ℕ → List ℕ → ℕ → String → String → MaskedRow
+rowMasked l r mask plain masked = record { one = l; other = r; mask = mask; lines = codes plain ++ (0x0A ∷ []) ++ (codes masked ++ (0x0A ∷ [])) }
+
+-- known pairs of N: B is scratch, which the plain entry leaves out
+abbrev pub scratch : List MaskedRow
+scratch =
+    rowMasked N (set (set N 24 3) 36 3) 0xFFFF "equal 1" "differs 1 0"
+    ∷ rowMasked N (set (set N 24 3) 36 3) 4 "equal 1" "equal 1"
+    ∷ rowMasked N (set (set N 24 3) 36 3) 9 "equal 1" "equal 0"
+    ∷ rowMasked N (set N 29 1) 0xFFFF "differs 2 0" "differs 1 0"
+    ∷ rowMasked (set N 15 2) (set N 15 2) 0xFFFF "equal 0" "equal 2"
+    ∷ rowMasked (set N 15 2) (set (set (set N 15 2) 24 3) 36 3) 0xFFFF "equal 0" "differs 1 0"
+    ∷ rowMasked (set N 15 0) N 0 "refused left 13 32" "refused left 13 32" ∷ []
 
 -- a pair, the side that is asked about, and the line of its explanation, with its end
 pub record ExplainedRow : Type 0 where

@@ -37,7 +37,10 @@ fn is_compared(list: &[u32], mask: u16, array: usize) -> bool
     if role == 1 {
         return true;
     }
-    role == 2
+    if role != 2 {
+        return false;
+    }
+    true
 }
 
 // What a word of a header adds to an array's size. No allowed extent is above 1,024, so products stay small.

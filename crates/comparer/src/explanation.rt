@@ -1,5 +1,6 @@
 // The explanation of a difference: the stretch of the left or the right program's bytes that wrote the element last.
 use crate::programs::compare_input;
+use crate::programs::compare_input_masked;
 use crate::programs::compare_programs_masked;
 use crate::reply::Reply;
 use crate::reply::Side;
@@ -15,7 +16,7 @@ ghost use Rattle.comparer.specs.Answers.{replySays};
 ghost use Prim.Native.Nat.{_+_, _≤_};
 ghost use Rattle.reader.specs.Field.{littleEndian};
 ghost use Rattle.comparer.specs.Entry.{enoughLent, leftIn, rightIn};
-ghost use Rattle.comparer.specs.Explain.{plain, explanation, inputExplanation};
+ghost use Rattle.comparer.specs.Explain.{plain, explanation, inputMaskedExplanation, inputExplanation};
 ghost use Rattle.comparer.specs.ExplainAnswers.{chosenSays, chosenOf, answerSays, explanationSays, answerBy, explanationBy, repliedBy, listLeft, IsPart};
 
 // The side that a caller asks about.
@@ -165,7 +166,7 @@ fn framed(reply: Reply, input: &[u8], side: Chosen, list: &mut [u32]) -> Explana
     replied(reply, left, right, side, list)
 }
 
-// The same for a framed input, with all bits of the mask set.
+// The same for a framed input, of the difference that `compare_input` finds in the out arrays.
 pub fn explain_input(
     input: &[u8],
     side: Chosen,
@@ -184,6 +185,29 @@ pub fn explain_input(
         ) ⌝ }
 {
     let reply = compare_input(input, left_list, right_list, cells, terms);
+    framed(reply, input, side, left_list)
+}
+
+// The same for a framed input and a mask.
+pub fn explain_input_masked(
+    input: &[u8],
+    mask: u16,
+    side: Chosen,
+    left_list: &mut [u32],
+    right_list: &mut [u32],
+    cells: &mut [u32],
+    terms: &mut [u32],
+) -> Explanation
+    ensures { λ r. ⌜ (
+        let long = enoughLent (now («left_list» .entry)) (now («right_list» .entry)) (now (cells .entry)) (now (terms .entry)) in
+        (explanationSays r ≡ inputMaskedExplanation long mask (chosenSays side) (now (input .entry)))
+        × (now («left_list» .exit) ≡ workLeft long (now («left_list» .entry)))
+        × (now («right_list» .exit) ≡ workLeft long (now («right_list» .entry)))
+        × (now (cells .exit) ≡ workLeft long (now (cells .entry)))
+        × (now (terms .exit) ≡ workLeft long (now (terms .entry)))
+        ) ⌝ }
+{
+    let reply = compare_input_masked(input, mask, left_list, right_list, cells, terms);
     framed(reply, input, side, left_list)
 }
 

@@ -5,13 +5,14 @@ use crate::lists::long_enough;
 use crate::memory::clear_used;
 use crate::reply::Reply;
 use crate::reply::Side;
+use crate::tables::out_bits;
 use model::byte::wide;
 use model::memory::clear;
 use model::sizes::MOST_BYTES;
 use unroller::Unrolled;
 use unroller::unroll;
 
-// The mask of the plain entry, and of many pairs.
+// The mask of many pairs.
 const ALL_BITS: u16 = 65535;
 
 ghost use mathlib.Core.Path.{_≡_};
@@ -20,10 +21,28 @@ ghost use Prim.Native.Nat.{_≤_};
 ghost use lib.ListN.{length};
 ghost use Rattle.model.specs.Memory.{cleared, listWords, workLeft};
 ghost use Rattle.comparer.specs.Answers.{replySays};
-ghost use Rattle.comparer.specs.Laying.{Lays, Ended};
+ghost use Rattle.comparer.specs.Headers.{Counted};
+ghost use Rattle.comparer.specs.Laying.{Lays, Ended, maskBy, Masks};
 ghost use Rattle.model.specs.Reply.{refused, input};
 ghost use Rattle.comparer.specs.BatchSteps.{bodyReply};
-ghost use Rattle.comparer.specs.Entry.{enoughLent, entryReply, programsReply, allBits, inputReply};
+ghost use Rattle.comparer.specs.Entry.{enoughLent, entryReply, programsBy, programsReply, plainReply, inputBy, inputMasked, inputReply};
+
+// The mask of a comparison: as a caller gives it, or the bits of the out arrays.
+pub(crate) enum Mask {
+    Given(u16),
+    Outs,
+}
+
+// Of the left's list.
+fn mask_of(mask: Mask, list: &[u32]) -> u16
+    requires { ⌜ Counted (now list) ⌝ }
+    ensures { λ r. ⌜ Masks mask (now (list .entry)) r ⌝ }
+{
+    match mask {
+        Mask::Given(bits) => bits,
+        Mask::Outs => out_bits(list),
+    }
+}
 
 // A program's list is laid out, or question and place of its refusal.
 pub(crate) enum Laid {
@@ -47,14 +66,14 @@ fn lay_out(program: &[u8], list: &mut [u32]) -> Laid
 fn unrolled_reply(
     left: &[u8],
     right: &[u8],
-    mask: u16,
+    mask: Mask,
     left_list: &mut [u32],
     right_list: &mut [u32],
     cells: &mut [u32],
     terms: &mut [u32],
 ) -> Reply
     requires { ⌜ enoughLent (now «left_list») (now «right_list») (now cells) (now terms) ≡ true ⌝ }
-    ensures { λ r. ⌜ replySays r ≡ programsReply mask (now (left .entry)) (now (right .entry)) ⌝ }
+    ensures { λ r. ⌜ replySays r ≡ programsBy (maskBy mask) (now (left .entry)) (now (right .entry)) ⌝ }
     ensures { λ _. ⌜ Ended (now («left_list» .exit)) × Ended (now («right_list» .exit)) ⌝ }
 {
     match lay_out(left, left_list) {
@@ -64,11 +83,42 @@ fn unrolled_reply(
         }
         Laid::Out => match lay_out(right, right_list) {
             Laid::Not(k, p) => Reply::Refused(Side::Right, k, p),
-            Laid::Out => compared(left_list, right_list, mask, cells, terms),
+            Laid::Out => {
+                let bits = mask_of(mask, left_list);
+                compared(left_list, right_list, bits, cells, terms)
+            }
         },
     }
 }
 
+// After 25; work memory is cleared behind it.
+fn programs_reply(
+    left: &[u8],
+    right: &[u8],
+    mask: Mask,
+    left_list: &mut [u32],
+    right_list: &mut [u32],
+    cells: &mut [u32],
+    terms: &mut [u32],
+) -> Reply
+    ensures { λ r. ⌜ (
+        let long = enoughLent (now («left_list» .entry)) (now («right_list» .entry)) (now (cells .entry)) (now (terms .entry)) in
+        (replySays r ≡ entryReply long (programsBy (maskBy mask) (now (left .entry)) (now (right .entry))))
+        × (now («left_list» .exit) ≡ workLeft long (now («left_list» .entry)))
+        × (now («right_list» .exit) ≡ workLeft long (now («right_list» .entry)))
+        × (now (cells .exit) ≡ workLeft long (now (cells .entry)))
+        × (now (terms .exit) ≡ workLeft long (now (terms .entry)))
+        ) ⌝ }
+{
+    if !long_enough(left_list.len(), right_list.len(), cells.len(), terms.len()) {
+        return Reply::Refused(Side::Both, 25, 0);
+    }
+    let reply = unrolled_reply(left, right, mask, left_list, right_list, cells, terms);
+    clear_used(left_list, right_list, cells, terms);
+    reply
+}
+
+// In the out and inout arrays whose bit of the mask is set.
 pub fn compare_programs_masked(
     left: &[u8],
     right: &[u8],
@@ -87,15 +137,11 @@ pub fn compare_programs_masked(
         × (now (terms .exit) ≡ workLeft long (now (terms .entry)))
         ) ⌝ }
 {
-    if !long_enough(left_list.len(), right_list.len(), cells.len(), terms.len()) {
-        return Reply::Refused(Side::Both, 25, 0);
-    }
-    let reply = unrolled_reply(left, right, mask, left_list, right_list, cells, terms);
-    clear_used(left_list, right_list, cells, terms);
-    reply
+    let given = Mask::Given(mask);
+    programs_reply(left, right, given, left_list, right_list, cells, terms)
 }
 
-// All bits of the mask are set.
+// In the out arrays.
 pub fn compare_programs(
     left: &[u8],
     right: &[u8],
@@ -106,14 +152,14 @@ pub fn compare_programs(
 ) -> Reply
     ensures { λ r. ⌜ (
         let long = enoughLent (now («left_list» .entry)) (now («right_list» .entry)) (now (cells .entry)) (now (terms .entry)) in
-        (replySays r ≡ entryReply long (programsReply allBits (now (left .entry)) (now (right .entry))))
+        (replySays r ≡ entryReply long (plainReply (now (left .entry)) (now (right .entry))))
         × (now («left_list» .exit) ≡ workLeft long (now («left_list» .entry)))
         × (now («right_list» .exit) ≡ workLeft long (now («right_list» .entry)))
         × (now (cells .exit) ≡ workLeft long (now (cells .entry)))
         × (now (terms .exit) ≡ workLeft long (now (terms .entry)))
         ) ⌝ }
 {
-    compare_programs_masked(left, right, ALL_BITS, left_list, right_list, cells, terms)
+    programs_reply(left, right, Mask::Outs, left_list, right_list, cells, terms)
 }
 
 // A refusal before any program is read.
@@ -130,13 +176,14 @@ fn unframed(reply: Reply, left_list: &mut [u32], right_list: &mut [u32]) -> Repl
 // The left's length in two bytes, the left, and the right up to the end.
 fn framed_reply(
     input: &[u8],
+    mask: Mask,
     left_list: &mut [u32],
     right_list: &mut [u32],
     cells: &mut [u32],
     terms: &mut [u32],
 ) -> Reply
     requires { ⌜ enoughLent (now «left_list») (now «right_list») (now cells) (now terms) ≡ true ⌝ }
-    ensures { λ r. ⌜ replySays r ≡ inputReply (now (input .entry)) ⌝ }
+    ensures { λ r. ⌜ replySays r ≡ inputBy (maskBy mask) (now (input .entry)) ⌝ }
     ensures { λ _. ⌜ Ended (now («left_list» .exit)) × Ended (now («right_list» .exit)) ⌝ }
 {
     if input.len() < 2 {
@@ -153,7 +200,7 @@ fn framed_reply(
     unrolled_reply(
         &input[2..end],
         &input[end..],
-        ALL_BITS,
+        mask,
         left_list,
         right_list,
         cells,
@@ -161,6 +208,33 @@ fn framed_reply(
     )
 }
 
+// After 25; work memory is cleared behind it.
+fn input_reply(
+    input: &[u8],
+    mask: Mask,
+    left_list: &mut [u32],
+    right_list: &mut [u32],
+    cells: &mut [u32],
+    terms: &mut [u32],
+) -> Reply
+    ensures { λ r. ⌜ (
+        let long = enoughLent (now («left_list» .entry)) (now («right_list» .entry)) (now (cells .entry)) (now (terms .entry)) in
+        (replySays r ≡ entryReply long (inputBy (maskBy mask) (now (input .entry))))
+        × (now («left_list» .exit) ≡ workLeft long (now («left_list» .entry)))
+        × (now («right_list» .exit) ≡ workLeft long (now («right_list» .entry)))
+        × (now (cells .exit) ≡ workLeft long (now (cells .entry)))
+        × (now (terms .exit) ≡ workLeft long (now (terms .entry)))
+        ) ⌝ }
+{
+    if !long_enough(left_list.len(), right_list.len(), cells.len(), terms.len()) {
+        return Reply::Refused(Side::Both, 25, 0);
+    }
+    let reply = framed_reply(input, mask, left_list, right_list, cells, terms);
+    clear_used(left_list, right_list, cells, terms);
+    reply
+}
+
+// Two programs in one framed input, in the out arrays.
 pub fn compare_input(
     input: &[u8],
     left_list: &mut [u32],
@@ -177,12 +251,35 @@ pub fn compare_input(
         × (now (terms .exit) ≡ workLeft long (now (terms .entry)))
         ) ⌝ }
 {
-    if !long_enough(left_list.len(), right_list.len(), cells.len(), terms.len()) {
-        return Reply::Refused(Side::Both, 25, 0);
-    }
-    let reply = framed_reply(input, left_list, right_list, cells, terms);
-    clear_used(left_list, right_list, cells, terms);
-    reply
+    input_reply(input, Mask::Outs, left_list, right_list, cells, terms)
+}
+
+// The same, in the out and inout arrays whose bit of the mask is set.
+pub fn compare_input_masked(
+    input: &[u8],
+    mask: u16,
+    left_list: &mut [u32],
+    right_list: &mut [u32],
+    cells: &mut [u32],
+    terms: &mut [u32],
+) -> Reply
+    ensures { λ r. ⌜ (
+        let long = enoughLent (now («left_list» .entry)) (now («right_list» .entry)) (now (cells .entry)) (now (terms .entry)) in
+        (replySays r ≡ entryReply long (inputMasked mask (now (input .entry))))
+        × (now («left_list» .exit) ≡ workLeft long (now («left_list» .entry)))
+        × (now («right_list» .exit) ≡ workLeft long (now («right_list» .entry)))
+        × (now (cells .exit) ≡ workLeft long (now (cells .entry)))
+        × (now (terms .exit) ≡ workLeft long (now (terms .entry)))
+        ) ⌝ }
+{
+    input_reply(
+        input,
+        Mask::Given(mask),
+        left_list,
+        right_list,
+        cells,
+        terms,
+    )
 }
 
 // One of many pairs whose bytes are cut.

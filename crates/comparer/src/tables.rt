@@ -1,8 +1,8 @@
-// Questions 22 and 23, over the words of the tables (docs/LAYOUT.md, "An update list in words").
+// Questions 22 and 23, and the bits of the out arrays, over the words of the tables (docs/LAYOUT.md, "An update list in words").
 ghost use mathlib.Core.Path.{_≡_};
 ghost use Prim.Native.Nat.{_≤_, min};
-ghost use lib.ListN.{length};
-ghost use Rattle.comparer.specs.Headers.{Counted, Leads, FirstApart, Ends, ArraysTell, OperatorsTell, TablesTell};
+ghost use lib.ListN.{length, getD};
+ghost use Rattle.comparer.specs.Headers.{Counted, bitsFrom, Leads, FirstApart, Ends, ArraysTell, OperatorsTell, TablesTell};
 use model::numbers::least;
 use model::numbers::wide;
 
@@ -33,6 +33,25 @@ fn non_locals(list: &[u32]) -> usize
         a += 1;
     }
     a
+}
+
+// The mask in which the bits of the out arrays are set, and no others: from the last array on, each has the bit below those behind it.
+pub(crate) fn out_bits(list: &[u32]) -> u16
+    requires { ⌜ Counted (now list) ⌝ }
+    ensures { λ r. ⌜ r ≡ bitsFrom (now (list .entry)) 0 (getD (now (list .entry)) 17 0) ⌝ }
+{
+    let n = wide(list[17]);
+    let mut bits: u16 = 0;
+    let mut a = n;
+    while 0 < a {
+        a -= 1;
+        if list[18 + 5 * a] == 1 {
+            bits = 2 * bits + 1;
+        } else {
+            bits = 2 * bits;
+        }
+    }
+    bits
 }
 
 // The first word from `from` on that differs, or `to`.

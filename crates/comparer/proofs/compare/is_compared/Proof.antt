@@ -1,4 +1,4 @@
-use Rattle.comparer.proofs.Sizes.{compared-off, compared-out, compared-inout}
+use Rattle.comparer.proofs.Sizes.{compared-off, compared-out, compared-not, compared-inout}
 use native.Mathlib.Omega.{arith}
 use borrow.Author.Needs.{needs}
 use Rattle.comparer.proofs.compare.is_compared.Statement.{statement}
@@ -17,7 +17,12 @@ returns-2 : tie.Need-returns-2
 returns-2 c = compared-out _ _ _ _ (c .before .role-of .ensures) (omega (arith, c .before .before .if1 .left)) (c .if2 .taken)
 
 returns-3 : tie.Need-returns-3
-returns-3 c = compared-inout _ _ _ _ (c .before .role-of .ensures) (omega (arith, c .before .before .if1 .left)) (c .if2 .left)
+returns-3 c =
+    let h = c .before .if2 .left in
+    compared-not _ _ _ _ (c .before .before .role-of .ensures) (omega (arith, c .before .before .before .if1 .left)) h (λ e. let k = c .if3 .taken in omega arith)
+
+returns-4 : tie.Need-returns-4
+returns-4 c = compared-inout _ _ _ _ (c .before .before .role-of .ensures) (omega (arith, c .before .before .before .if1 .left)) (omega (arith, c .if3 .left))
 
 pub is-compared-spec : {M : Type 1} → statement M
 is-compared-spec =
@@ -27,4 +32,5 @@ is-compared-spec =
     returns
     role-of-requires
     returns-2
-    returns-3)
+    returns-3
+    returns-4)

@@ -1,7 +1,7 @@
 use borrow.Author.Needs.{needs}
 use mathlib.Core.Path.{_∙_}
 use Rattle.comparer.specs.Answers.{replySays}
-use Rattle.comparer.specs.Entry.{enoughLent, allBits}
+use Rattle.comparer.specs.Entry.{enoughLent, outMask}
 use Rattle.comparer.specs.ExplainAnswers.{chosenSays}
 use Rattle.comparer.proofs.Explains.{input-says, input-leaves, long-list}
 use Rattle.comparer.proofs.explanation.explain_input.Statement.{statement}
@@ -26,7 +26,7 @@ same-length-4 : tie.Need-same-length-4
 same-length-4 c = c .before .before .before .before .before .before .before .before .before .before .before .before .compare-input .kept .1 .1 .1 .1 .0
 
 returns : tie.Need-returns
-returns c = let a = c .before .before .before .before .before .before .before .before .before .before .before .before .before .before .before .before .before .before .before .before .before .before .args in let m = c .before .before .before .before .before .before .before .before .before .before .before .before .compare-input .ensures in let r = c .before .before .framed .ensures in let long = enoughLent (a .left-list .now) (a .right-list .now) (a .cells .now) (a .terms .now) in (r .0 ∙ input-says long (λ x. allBits) (chosenSays (a .side)) (a .input .now) (replySays (c .before .before .before .before .before .before .before .before .before .before .before .before .compare-input .result)) (m .0) (a .left-list .now) (c .before .before .before .before .before .before .before .before .before .before .before .before .compare-input .last .1 .0) (m .1) (λ h. long-list (a .left-list .now) (a .right-list .now) (a .cells .now) (a .terms .now) h), r .1 ∙ input-leaves long (λ x. allBits) (chosenSays (a .side)) (a .input .now) (replySays (c .before .before .before .before .before .before .before .before .before .before .before .before .compare-input .result)) (m .0) (a .left-list .now) (c .before .before .before .before .before .before .before .before .before .before .before .before .compare-input .last .1 .0) (m .1) (λ h. long-list (a .left-list .now) (a .right-list .now) (a .cells .now) (a .terms .now) h), m .2, m .3, m .4)
+returns c = let a = c .before .before .before .before .before .before .before .before .before .before .before .before .before .before .before .before .before .before .before .before .before .before .args in let m = c .before .before .before .before .before .before .before .before .before .before .before .before .compare-input .ensures in let r = c .before .before .framed .ensures in let long = enoughLent (a .left-list .now) (a .right-list .now) (a .cells .now) (a .terms .now) in (r .0 ∙ input-says long outMask (chosenSays (a .side)) (a .input .now) (replySays (c .before .before .before .before .before .before .before .before .before .before .before .before .compare-input .result)) (m .0) (a .left-list .now) (c .before .before .before .before .before .before .before .before .before .before .before .before .compare-input .last .1 .0) (m .1) (λ h. long-list (a .left-list .now) (a .right-list .now) (a .cells .now) (a .terms .now) h), r .1 ∙ input-leaves long outMask (chosenSays (a .side)) (a .input .now) (replySays (c .before .before .before .before .before .before .before .before .before .before .before .before .compare-input .result)) (m .0) (a .left-list .now) (c .before .before .before .before .before .before .before .before .before .before .before .before .compare-input .last .1 .0) (m .1) (λ h. long-list (a .left-list .now) (a .right-list .now) (a .cells .now) (a .terms .now) h), m .2, m .3, m .4)
 
 pub explain-input-spec : {M : Type 1} → statement M
 explain-input-spec = tie.close (tie.spec compare-input-requires framed-requires same-length same-length-2 same-length-3 same-length-4 returns)

@@ -2,8 +2,8 @@ use borrow.Author.Needs.{needs}
 use Rattle.comparer.proofs.programs.compare_programs.Statement.{statement}
 use Rattle.comparer.proofs.programs.compare_programs.Tie as tie
 
-compare-programs-masked-requires : tie.Need-compare-programs-masked-requires
-compare-programs-masked-requires c κs = search needs
+programs-reply-requires : tie.Need-programs-reply-requires
+programs-reply-requires c κs = search needs
 
 same-length : tie.Need-same-length
 same-length c = search needs
@@ -18,13 +18,13 @@ same-length-4 : tie.Need-same-length-4
 same-length-4 c = search needs
 
 returns : tie.Need-returns
-returns c = c .before .before .before .before .before .before .before .before .compare-programs-masked .ensures
+returns c = c .before .before .before .before .before .before .before .before .programs-reply .ensures
 
 pub compare-programs-spec : {M : Type 1} → statement M
 compare-programs-spec =
     tie.close
     (tie.spec
-    compare-programs-masked-requires
+    programs-reply-requires
     same-length
     same-length-2
     same-length-3

@@ -1,30 +1,9 @@
 use borrow.Author.Needs.{needs}
-use mathlib.Core.Path.{_≡_}
-use mathlib.Core.Bool.{true, false}
-use mathlib.Core.Path.{sym, _∙_}
-use borrow.Author.Tests.{not-true, not-false}
-use lib.ListN.{length}
-use Rattle.comparer.specs.Entry.{enough}
-use Rattle.comparer.proofs.ListEntries.{work-kept, work-cleared}
-use Rattle.comparer.proofs.ProgramEntries.{entry-short, entry-long}
 use Rattle.comparer.proofs.programs.compare_programs_masked.Statement.{statement}
 use Rattle.comparer.proofs.programs.compare_programs_masked.Tie as tie
 
-long-enough-requires : tie.Need-long-enough-requires
-long-enough-requires c κs = search needs
-
-returns : tie.Need-returns
-returns c =
-    let s = c .before .before .before .before .before .before .before .before .args in
-    let long = enough (length (s .left-list .now)) (length (s .right-list .now)) (length (s .cells .now)) (length (s .terms .now)) in
-    let e : long ≡ false = (sym (c .before .long-enough .ensures) ∙ not-true _ (c .if1 .taken)) in
-    (entry-short _ _ e, work-kept _ _ e, work-kept _ _ e, work-kept _ _ e, work-kept _ _ e)
-
-unrolled-reply-requires : tie.Need-unrolled-reply-requires
-unrolled-reply-requires c κs = (sym (c .before .before .before .before .before .long-enough .ensures) ∙ not-false _ (c .before .before .before .before .if1 .left))
-
-clear-used-requires : tie.Need-clear-used-requires
-clear-used-requires c κs = c .before .before .before .before .before .before .before .before .before .before .before .before .unrolled-reply .ensures .1
+programs-reply-requires : tie.Need-programs-reply-requires
+programs-reply-requires c κs = search needs
 
 same-length : tie.Need-same-length
 same-length c = search needs
@@ -38,14 +17,16 @@ same-length-3 c = search needs
 same-length-4 : tie.Need-same-length-4
 same-length-4 c = search needs
 
-returns-2 : tie.Need-returns-2
-returns-2 c =
-    let s = c .before .before .before .before .before .before .before .before .before .before .before .before .before .before .before .before .before .before .before .before .before .before .before .before .before .before .before .before .before .before .before .before .before .before .args in
-    let long = enough (length (s .left-list .now)) (length (s .right-list .now)) (length (s .cells .now)) (length (s .terms .now)) in
-    let u = c .before .before .before .before .before .before .before .before .before .before .before .before .before .before .before .before .before .before .before .before .before .unrolled-reply in
-    let d = c .before .before .before .before .before .before .before .before .clear-used in
-    let e : long ≡ true = (sym (c .before .before .before .before .before .before .before .before .before .before .before .before .before .before .before .before .before .before .before .before .before .before .before .before .before .before .before .long-enough .ensures) ∙ not-false _ (c .before .before .before .before .before .before .before .before .before .before .before .before .before .before .before .before .before .before .before .before .before .before .before .before .before .before .if1 .left)) in
-    (entry-long long _ _ e (u .ensures .0), work-cleared long (s .left-list .now) (u .last .1 .1 .1 .0) (d .last .0) e (u .kept .1 .1 .1 .0) (d .ensures .0), work-cleared long (s .right-list .now) (u .last .1 .1 .1 .1 .0) (d .last .1 .0) e (u .kept .1 .1 .1 .1 .0) (d .ensures .1 .0), work-cleared long (s .cells .now) (u .last .1 .1 .1 .1 .1 .0) (d .last .1 .1 .0) e (u .kept .1 .1 .1 .1 .1 .0) (d .ensures .1 .1 .0), work-cleared long (s .terms .now) (u .last .1 .1 .1 .1 .1 .1 .0) (d .last .1 .1 .1 .0) e (u .kept .1 .1 .1 .1 .1 .1 .0) (d .ensures .1 .1 .1))
+returns : tie.Need-returns
+returns c = c .before .before .before .before .before .before .before .before .programs-reply .ensures
 
 pub compare-programs-masked-spec : {M : Type 1} → statement M
-compare-programs-masked-spec = tie.close (tie.spec long-enough-requires returns unrolled-reply-requires clear-used-requires same-length same-length-2 same-length-3 same-length-4 returns-2)
+compare-programs-masked-spec =
+    tie.close
+    (tie.spec
+    programs-reply-requires
+    same-length
+    same-length-2
+    same-length-3
+    same-length-4
+    returns)
