@@ -5,6 +5,7 @@ use comparer::Answer;
 use comparer::Chosen;
 use comparer::Explanation;
 use comparer::compare_lists;
+use comparer::compare_programs;
 use comparer::compare_programs_masked;
 use comparer::explain;
 use comparer::reply::Reply;
@@ -21,7 +22,7 @@ ghost use Rattle.unroller.specs.Unroll.{unrollReply, unrollLeaves, checkReply};
 ghost use Rattle.unroller.specs.UnrollAnswers.{unrolledSays};
 ghost use Rattle.unroller.specs.CheckAnswers.{checkedSays};
 ghost use Rattle.comparer.specs.Answers.{sideSays, replySays};
-ghost use Rattle.comparer.specs.Entry.{enoughLent, entryReply, programsReply, wordsReply};
+ghost use Rattle.comparer.specs.Entry.{enoughLent, entryReply, programsReply, plainReply, wordsReply};
 ghost use Rattle.comparer.specs.Explain.{explanation};
 ghost use Rattle.comparer.specs.ExplainAnswers.{chosenSays, explanationSays};
 ghost use Rattle.cabi.specs.Numbers.{sideNumber, numbersOf, unrolledNumbers, checkedNumbers, chosenBy, explanationNumbers};
@@ -125,6 +126,29 @@ pub extern "C" fn tengmua_compare_programs(
         ) ⌝ }
 {
     let reply = compare_programs_masked(left, right, mask, left_list, right_list, cells, terms);
+    reply_numbers(reply)
+}
+
+// Two programs, in the out arrays. The four lent slices are work memory, as above.
+#[no_mangle]
+pub extern "C" fn tengmua_compare_plain(
+    left: &[u8],
+    right: &[u8],
+    left_list: &mut [u32],
+    right_list: &mut [u32],
+    cells: &mut [u32],
+    terms: &mut [u32],
+) -> Numbers
+    ensures { λ r. ⌜ (
+        let long = enoughLent (now («left_list» .entry)) (now («right_list» .entry)) (now (cells .entry)) (now (terms .entry)) in
+        (r ≡ numbersOf (entryReply long (plainReply (now (left .entry)) (now (right .entry)))))
+        × (now («left_list» .exit) ≡ workLeft long (now («left_list» .entry)))
+        × (now («right_list» .exit) ≡ workLeft long (now («right_list» .entry)))
+        × (now (cells .exit) ≡ workLeft long (now (cells .entry)))
+        × (now (terms .exit) ≡ workLeft long (now (terms .entry)))
+        ) ⌝ }
+{
+    let reply = compare_programs(left, right, left_list, right_list, cells, terms);
     reply_numbers(reply)
 }
 
