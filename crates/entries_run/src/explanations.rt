@@ -45,7 +45,7 @@ fn chosen(n: usize) -> Chosen {
     Chosen::Right
 }
 
-// A mask and a side stand before the two programs, of which the left has n bytes; before framed input a side alone.
+// A mask and a side stand before the two programs, of which the left has n bytes, and before framed input; or a side alone (38).
 pub(crate) fn entered(
     entry: usize,
     n: usize,
@@ -57,6 +57,8 @@ pub(crate) fn entered(
 ) {
     if entry == 38 {
         of_input(s, left_list, right_list, cells, terms);
+    } else if entry == 44 {
+        of_masked_input(s, left_list, right_list, cells, terms);
     } else {
         of_programs(n, s, left_list, right_list, cells, terms);
     }
@@ -75,6 +77,31 @@ fn of_input(
     }
     let side = chosen(wide(s[0]));
     say_explanation(comparer::explain_input(&s[1..], side, left_list, right_list, cells, terms));
+    say_sums(left_list, right_list, cells, terms);
+}
+
+fn of_masked_input(
+    s: &[u8],
+    left_list: &mut [u32],
+    right_list: &mut [u32],
+    cells: &mut [u32],
+    terms: &mut [u32],
+) {
+    if s.len() < 3 {
+        refused();
+        return;
+    }
+    let mask = pair(s[0], s[1]);
+    let side = chosen(wide(s[2]));
+    say_explanation(comparer::explain_input_masked(
+        &s[3..],
+        mask,
+        side,
+        left_list,
+        right_list,
+        cells,
+        terms,
+    ));
     say_sums(left_list, right_list, cells, terms);
 }
 

@@ -2,8 +2,8 @@
 // many pairs in `batches`.
 use crate::batches;
 use crate::explanations;
+use crate::explanations::say_sums;
 use crate::memory::fill;
-use crate::memory::say_sum;
 use crate::numbers::Args;
 use crate::numbers::low_byte;
 use crate::numbers::refused;
@@ -13,6 +13,7 @@ use comparer::Line;
 use comparer::reply::Reply;
 use comparer::reply::Side;
 use model::byte::wide;
+use reader::fields::pair;
 
 pub(crate) fn called(entry: usize, x: Args, s: &[u8]) {
     match entry {
@@ -32,6 +33,12 @@ pub(crate) fn called(entry: usize, x: Args, s: &[u8]) {
             compared(entry, x, s);
         }
         40 => {
+            compared(entry, x, s);
+        }
+        43 => {
+            compared(entry, x, s);
+        }
+        44 => {
             compared(entry, x, s);
         }
         _ => {
@@ -131,6 +138,10 @@ fn entered(
         batches::entered(s, left_list, right_list, cells, terms);
         return;
     }
+    if entry == 43 {
+        masked(s, left_list, right_list, cells, terms);
+        return;
+    }
     if entry >= 34 {
         explanations::entered(entry, n, s, left_list, right_list, cells, terms);
         return;
@@ -140,10 +151,24 @@ fn entered(
         return;
     }
     say_reply(reply(entry, n, s, left_list, right_list, cells, terms));
-    say_sum(left_list);
-    say_sum(right_list);
-    say_sum(cells);
-    say_sum(terms);
+    say_sums(left_list, right_list, cells, terms);
+}
+
+// A mask stands before framed input.
+fn masked(
+    s: &[u8],
+    left_list: &mut [u32],
+    right_list: &mut [u32],
+    cells: &mut [u32],
+    terms: &mut [u32],
+) {
+    if s.len() < 2 {
+        refused();
+        return;
+    }
+    let mask = pair(s[0], s[1]);
+    say_reply(comparer::compare_input_masked(&s[2..], mask, left_list, right_list, cells, terms));
+    say_sums(left_list, right_list, cells, terms);
 }
 
 // The left has n bytes of `s`, the right the others; framed input is all of `s`.
