@@ -3,6 +3,7 @@
 
 use std::io::{self, Read, Write};
 
+use crate::compare::ALL;
 use crate::limits::PROGRAM_BYTES;
 use crate::line::{line_of, line_of_totals};
 use crate::reply::{Question, Reply, Side};
@@ -97,7 +98,7 @@ fn read_pair(input: &mut impl Read, pair: &mut Vec<u8>) -> io::Result<()> {
     Ok(())
 }
 
-/// Answers pair after pair: the line of each, and at the end that of the
+/// Answers pair after pair, with every bit of the mask: the line of each, and at the end that of the
 /// totals. One pair at a time is in memory. Where a read or a write fails
 /// there is no last line; the lines before a read that fails are flushed.
 pub fn answer(mut input: impl Read, mut out: impl Write) -> io::Result<Totals> {
@@ -109,7 +110,8 @@ pub fn answer(mut input: impl Read, mut out: impl Write) -> io::Result<Totals> {
             return Err(error);
         }
         let Some(pair) = first(&bytes) else { break };
-        let reply = pair.map_or_else(|no| no, |(left, right)| work.programs(left, right));
+        let compare = |(left, right)| work.programs_masked(left, right, ALL);
+        let reply = pair.map_or_else(|no| no, compare);
         totals.count(reply);
         writeln!(out, "{}", line_of(reply))?;
         if pair.is_err() {

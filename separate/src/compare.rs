@@ -8,8 +8,26 @@ use crate::run::run;
 use crate::tables::{self, Role, Tables};
 use crate::terms::{self, Store, Term};
 
-/// Every bit set: the mask of the plain entry.
+/// The mask with every bit set.
 pub const ALL: u16 = u16::MAX;
+
+/// The arrays whose elements are compared.
+#[derive(Clone, Copy, Debug, PartialEq, Eq)]
+pub(crate) enum Compared {
+    /// The plain comparison: the out arrays, and no other.
+    Out,
+    /// Out and inout arrays, those whose bit is set in the mask.
+    Masked(u16),
+}
+
+impl Compared {
+    fn has(self, array: usize, role: Role) -> bool {
+        match self {
+            Compared::Out => role == Role::Out,
+            Compared::Masked(mask) => role.maskable() && mask >> array & 1 == 1,
+        }
+    }
+}
 
 /// Compares two lists, which are only read.
 pub fn compare_lists(
@@ -31,10 +49,10 @@ pub fn compare_lists(
     let Some(right) = decode(right) else {
         return Question::List.at(0).reply(Side::Right);
     };
-    compare_accepted(&left, &right, mask, cells, terms)
+    compare_accepted(&left, &right, Compared::Masked(mask), cells, terms)
 }
 
-/// Compares two programs in the arrays whose bit is set.
+/// Compares two programs in the out and inout arrays whose bit is set.
 pub fn compare_programs_masked(
     left: &[u8],
     right: &[u8],
@@ -44,14 +62,10 @@ pub fn compare_programs_masked(
     cells: &mut [u32],
     terms: &mut [u32],
 ) -> Reply {
-    let mut memory = Memory { left_list, right_list, cells, terms };
-    if !memory.suffices() {
-        return Question::Memory.at(0).reply(Side::Both);
-    }
-    memory.programs(left, right, mask)
+    Memory { left_list, right_list, cells, terms }.compare(left, right, Compared::Masked(mask))
 }
 
-/// Compares two programs in all their out and inout arrays.
+/// Compares two programs in their out arrays.
 pub fn compare_programs(
     left: &[u8],
     right: &[u8],
@@ -60,7 +74,7 @@ pub fn compare_programs(
     cells: &mut [u32],
     terms: &mut [u32],
 ) -> Reply {
-    compare_programs_masked(left, right, ALL, left_list, right_list, cells, terms)
+    Memory { left_list, right_list, cells, terms }.compare(left, right, Compared::Out)
 }
 
 fn work_suffices(cells: &[u32], terms: &[u32]) -> bool {
@@ -89,8 +103,16 @@ impl Memory<'_> {
         self.terms.fill(0);
     }
 
+    fn compare(mut self, left: &[u8], right: &[u8], compared: Compared) -> Reply {
+        if self.suffices() {
+            self.programs(left, right, compared)
+        } else {
+            Question::Memory.at(0).reply(Side::Both)
+        }
+    }
+
     /// Needs memory that suffices, and leaves all of it zeros.
-    pub fn programs(&mut self, left: &[u8], right: &[u8], mask: u16) -> Reply {
+    pub fn programs(&mut self, left: &[u8], right: &[u8], compared: Compared) -> Reply {
         let (left, right) = match self.unroll_both(left, right) {
             Ok(unrolled) => unrolled,
             Err(reply) => {
@@ -103,7 +125,7 @@ impl Memory<'_> {
         let (left_words, right_words) = (left.words, right.words);
         let left = left.over(self.left_list);
         let right = right.over(self.right_list);
-        let reply = compare_accepted(&left, &right, mask, self.cells, self.terms);
+        let reply = compare_accepted(&left, &right, compared, self.cells, self.terms);
         // Behind these words the run left zeros.
         self.left_list[..left_words].fill(0);
         self.right_list[..right_words].fill(0);
@@ -140,7 +162,7 @@ fn unroll(program: &[u8], list: &mut [u32]) -> Result<Unrolled, Refusal> {
 fn compare_accepted(
     left: &List,
     right: &List,
-    mask: u16,
+    compared: Compared,
     cells: &mut [u32],
     terms: &mut [u32],
 ) -> Reply {
@@ -154,7 +176,7 @@ fn compare_accepted(
         .and_then(|()| evaluate(right, right_cells, &mut store));
     let reply = match evaluated {
         None => Question::Terms.at(0).reply(Side::Both),
-        Some(()) => first_difference(&left.tables, mask, left_cells, right_cells, &store),
+        Some(()) => first_difference(&left.tables, compared, left_cells, right_cells, &store),
     };
     store.clear();
     cells.fill(0);
@@ -248,14 +270,14 @@ impl Evaluation<'_, '_> {
 /// Goes over the compared elements by array number, then cell number.
 fn first_difference(
     tables: &Tables,
-    mask: u16,
+    compared: Compared,
     left: &[u32],
     right: &[u32],
     store: &Store,
 ) -> Reply {
     let mut count = 0;
     for (array, declared) in tables.shared().iter().enumerate() {
-        if !declared.role.compared() || mask >> array & 1 == 0 {
+        if !compared.has(array, declared.role) {
             continue;
         }
         // Shared arrays come first and are alike, so both sides begin here.

@@ -3,8 +3,8 @@
 //! The comparison runs first and as always. Only a difference is explained: the
 //! chosen program runs once more, watched for writes of the element.
 
-use crate::compare::{Memory, ALL};
-use crate::input::{compare_input, split};
+use crate::compare::{Compared, Memory};
+use crate::input::{compare_framed, split};
 use crate::limits::{ITEM_NESTING, LIST_WORDS};
 use crate::read::{read_program, Item, Program};
 use crate::reply::{Question, Refusal, Reply, Side};
@@ -108,22 +108,11 @@ pub fn explain(
     if !memory.suffices() {
         return Explanation::refused(Question::Memory);
     }
-    match memory.programs(left, right, mask) {
-        Reply::Refused { side, number, place } => Explanation::Refused { side, number, place },
-        Reply::Equal { .. } => Explanation::refused(Question::Difference),
-        Reply::Differs { array, cell } => {
-            // Either list does: both are free and zeros again.
-            let origin = run_again(chosen.of(left, right), array, cell, memory.left_list);
-            match origin.expect("the comparison ran it without a \"no\"") {
-                Some(writer) => Explanation::Written { array, cell, writer },
-                None => Explanation::Starting { array, cell },
-            }
-        }
-    }
+    let reply = memory.programs(left, right, Compared::Masked(mask));
+    explain_reply(reply, chosen.of(left, right), memory.left_list)
 }
 
-/// Explains the first element that differs in a framed input, with every bit of
-/// the mask set.
+/// Explains the first out element that differs in a framed input.
 pub fn explain_input(
     input: &[u8],
     chosen: Chosen,
@@ -132,13 +121,48 @@ pub fn explain_input(
     cells: &mut [u32],
     terms: &mut [u32],
 ) -> Explanation {
-    match split(input) {
-        Ok((left, right)) => explain(left, right, ALL, chosen, left_list, right_list, cells, terms),
-        // Nothing differs that could be explained: 25, 1 or 2.
-        Err(_) => match compare_input(input, left_list, right_list, cells, terms) {
-            Reply::Refused { side, number, place } => Explanation::Refused { side, number, place },
-            reply => unreachable!("{reply:?} to an input that is not framed"),
-        },
+    explain_framed(input, Compared::Out, chosen, Memory { left_list, right_list, cells, terms })
+}
+
+/// Explains the first element that differs in a framed input under the mask.
+pub fn explain_input_masked(
+    input: &[u8],
+    mask: u16,
+    chosen: Chosen,
+    left_list: &mut [u32],
+    right_list: &mut [u32],
+    cells: &mut [u32],
+    terms: &mut [u32],
+) -> Explanation {
+    let memory = Memory { left_list, right_list, cells, terms };
+    explain_framed(input, Compared::Masked(mask), chosen, memory)
+}
+
+fn explain_framed(
+    input: &[u8],
+    compared: Compared,
+    chosen: Chosen,
+    mut memory: Memory,
+) -> Explanation {
+    let reply = compare_framed(input, compared, &mut memory);
+    // Where there are no two programs the reply is a refusal, and needs none.
+    let program = split(input).map_or(&[][..], |(left, right)| chosen.of(left, right));
+    explain_reply(reply, program, memory.left_list)
+}
+
+/// The chosen program runs once more where the reply is a difference. The list
+/// is work memory: either does, both are free and zeros again.
+fn explain_reply(reply: Reply, program: &[u8], list: &mut [u32]) -> Explanation {
+    match reply {
+        Reply::Refused { side, number, place } => Explanation::Refused { side, number, place },
+        Reply::Equal { .. } => Explanation::refused(Question::Difference),
+        Reply::Differs { array, cell } => {
+            let origin = run_again(program, array, cell, list);
+            match origin.expect("the comparison ran it without a \"no\"") {
+                Some(writer) => Explanation::Written { array, cell, writer },
+                None => Explanation::Starting { array, cell },
+            }
+        }
     }
 }
 

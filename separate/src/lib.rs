@@ -23,8 +23,10 @@ pub mod tree;
 pub mod work;
 
 pub use compare::{compare_lists, compare_programs, compare_programs_masked};
-pub use explain::{explain, explain_input, origin_of, stretch, Chosen, Explanation, Origin};
-pub use input::compare_input;
+pub use explain::{
+    explain, explain_input, explain_input_masked, origin_of, stretch, Chosen, Explanation, Origin,
+};
+pub use input::{compare_input, compare_input_masked};
 pub use line::{line_of, line_of_explanation, line_of_totals};
 pub use list::check_list;
 pub use read::read_program;

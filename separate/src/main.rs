@@ -6,14 +6,14 @@ use std::io::{self, BufReader, BufWriter, Read, Write};
 use std::os::fd::AsFd;
 use std::process::ExitCode;
 
-use separate::compare::ALL;
-use separate::input::{split, INPUT_BYTES};
+use separate::input::INPUT_BYTES;
 use separate::random::{Batches, Explanations, ListPairs, Pairs, Records};
 use separate::{
-    batch, entries, line_of, line_of_explanation, notation, stream, Chosen, Refusal, Reply, Work,
+    batch, entries, line_of, line_of_explanation, notation, stream, Chosen, Explanation, Question,
+    Refusal, Reply, Side, Work,
 };
 
-const USAGE: &str = "usage: separate pair | explain | batch
+const USAGE: &str = "usage: separate pair | explain | masked | batch
        separate lines | histogram | list-lines | entry-lines | batch-lines
        separate asm [--places] | dis [--places]
        separate random COUNT SEED | random-lists COUNT SEED | random-entries COUNT SEED
@@ -28,6 +28,7 @@ fn main() -> ExitCode {
     let outcome = match words.as_deref() {
         Some(["pair"]) => pair(),
         Some(["explain"]) => explain(),
+        Some(["masked"]) => masked(),
         Some(["batch"]) => many(),
         Some(["lines"]) => lines(),
         Some(["histogram"]) => histogram(),
@@ -70,27 +71,47 @@ fn output(write: impl FnOnce(&mut dyn Write) -> io::Result<()>) -> Outcome {
     write(&mut out).and_then(|()| out.flush()).map_err(failed)
 }
 
-/// A framed pair. What follows can change no reply, so it is not waited for.
-fn framed_input() -> Result<Vec<u8>, String> {
+/// So many bytes of standard input. What follows can change no reply, so it is
+/// not waited for.
+fn first_bytes(count: usize) -> Result<Vec<u8>, String> {
     let mut input = Vec::new();
-    io::stdin().lock().take(INPUT_BYTES as u64).read_to_end(&mut input).map_err(failed)?;
+    io::stdin().lock().take(count as u64).read_to_end(&mut input).map_err(failed)?;
     Ok(input)
 }
 
 fn pair() -> Outcome {
-    let line = line_of(Work::default().input(&framed_input()?));
+    let line = line_of(Work::default().input(&first_bytes(INPUT_BYTES)?));
     output(|out| writeln!(out, "{line}"))
 }
 
-/// The reply's line and, on a difference, that of each side's explanation.
 fn explain() -> Outcome {
-    let input = framed_input()?;
+    let input = first_bytes(INPUT_BYTES)?;
     let mut work = Work::default();
-    let reply = work.input(&input);
+    explained(work.input(&input), |chosen| work.explain_input(&input, chosen))
+}
+
+/// As `explain`, of a framed pair behind a mask of 16 bits.
+fn masked() -> Outcome {
+    let bytes = first_bytes(2 + INPUT_BYTES)?;
+    let mut work = Work::default();
+    match bytes.split_first_chunk() {
+        Some((&mask, input)) => {
+            let mask = u16::from_le_bytes(mask);
+            let reply = work.input_masked(input, mask);
+            explained(reply, |chosen| work.explain_input_masked(input, mask, chosen))
+        }
+        None => {
+            let line = line_of(Question::Framing.at(0).reply(Side::Input));
+            output(|out| writeln!(out, "{line}"))
+        }
+    }
+}
+
+/// The reply's line and, on a difference, that of each side's explanation.
+fn explained(reply: Reply, explain: impl FnMut(Chosen) -> Explanation) -> Outcome {
     let mut lines = vec![line_of(reply)];
-    if let (Reply::Differs { .. }, Ok((left, right))) = (reply, split(&input)) {
-        let line = |chosen| line_of_explanation(work.explain(left, right, ALL, chosen));
-        lines.extend([Chosen::Left, Chosen::Right].map(line));
+    if let Reply::Differs { .. } = reply {
+        lines.extend([Chosen::Left, Chosen::Right].map(explain).map(line_of_explanation));
     }
     output(|out| lines.iter().try_for_each(|line| writeln!(out, "{line}")))
 }

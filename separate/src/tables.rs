@@ -36,7 +36,8 @@ impl Role {
         matches!(self, Role::In | Role::Inout)
     }
 
-    pub fn compared(self) -> bool {
+    /// Can a mask say that elements of such arrays are compared?
+    pub fn maskable(self) -> bool {
         matches!(self, Role::Out | Role::Inout)
     }
 }

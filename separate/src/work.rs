@@ -1,8 +1,8 @@
 //! Work memory that is owned and used again, for callers that lend none.
 
-use crate::compare::{compare_lists, compare_programs_masked, ALL};
-use crate::explain::{explain, Chosen, Explanation};
-use crate::input::compare_input;
+use crate::compare::{compare_lists, compare_programs, compare_programs_masked};
+use crate::explain::{explain, explain_input, explain_input_masked, Chosen, Explanation};
+use crate::input::{compare_input, compare_input_masked};
 use crate::limits::{CELL_WORDS, LIST_WORDS, TERM_WORDS};
 use crate::reply::{Refusal, Reply};
 use crate::run::unroll;
@@ -32,8 +32,14 @@ impl Work {
         compare_input(input, left_list, right_list, cells, terms)
     }
 
+    pub fn input_masked(&mut self, input: &[u8], mask: u16) -> Reply {
+        let Work { left_list, right_list, cells, terms } = self;
+        compare_input_masked(input, mask, left_list, right_list, cells, terms)
+    }
+
     pub fn programs(&mut self, left: &[u8], right: &[u8]) -> Reply {
-        self.programs_masked(left, right, ALL)
+        let Work { left_list, right_list, cells, terms } = self;
+        compare_programs(left, right, left_list, right_list, cells, terms)
     }
 
     pub fn programs_masked(&mut self, left: &[u8], right: &[u8], mask: u16) -> Reply {
@@ -44,6 +50,16 @@ impl Work {
     pub fn explain(&mut self, left: &[u8], right: &[u8], mask: u16, chosen: Chosen) -> Explanation {
         let Work { left_list, right_list, cells, terms } = self;
         explain(left, right, mask, chosen, left_list, right_list, cells, terms)
+    }
+
+    pub fn explain_input(&mut self, input: &[u8], chosen: Chosen) -> Explanation {
+        let Work { left_list, right_list, cells, terms } = self;
+        explain_input(input, chosen, left_list, right_list, cells, terms)
+    }
+
+    pub fn explain_input_masked(&mut self, input: &[u8], mask: u16, chosen: Chosen) -> Explanation {
+        let Work { left_list, right_list, cells, terms } = self;
+        explain_input_masked(input, mask, chosen, left_list, right_list, cells, terms)
     }
 
     pub fn lists(&mut self, left: &[u32], right: &[u32], mask: u16) -> Reply {

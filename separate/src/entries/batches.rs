@@ -2,7 +2,7 @@
 
 use super::{memories, number_at, Line, Unfit};
 use crate::batch::{lengths, split, Totals};
-use crate::compare::{Memory, ALL};
+use crate::compare::{Compared, Memory, ALL};
 use crate::line::line_of_totals;
 use crate::reply::{Question, Reply, Side};
 
@@ -24,7 +24,7 @@ fn compare_pair(stated: [usize; 2], bytes: &[u8], lent: &mut [Vec<u32>; 4]) -> (
     let pair = split(stated, bytes);
     let reply = match pair {
         _ if !memory.suffices() => Question::Memory.at(0).reply(Side::Both),
-        Ok((left, right)) => memory.programs(left, right, ALL),
+        Ok((left, right)) => memory.programs(left, right, Compared::Masked(ALL)),
         Err(cut) => {
             memory.clear();
             cut

@@ -2,7 +2,8 @@
 
 use super::{memories, side_of, Line, Unfit};
 use crate::explain::{
-    explain, explain_input, origin_of, stretch, Chosen, Explanation, Origin, Writer,
+    explain, explain_input, explain_input_masked, origin_of, stretch, Chosen, Explanation, Origin,
+    Writer,
 };
 use crate::line::line_of_explanation;
 use crate::reply::Side;
@@ -70,6 +71,24 @@ impl Line {
         let chosen = Chosen::from_number(usize::from(side));
         let [left_list, right_list, cells, terms] = &mut lent;
         self.explanation(explain_input(input, chosen, left_list, right_list, cells, terms));
+        lent.into_iter().for_each(|memory| self.sum(memory));
+        Ok(())
+    }
+
+    pub(super) fn explain_input_masked(
+        &mut self,
+        arguments: [usize; 6],
+        s: &[u8],
+    ) -> Result<(), Unfit> {
+        let [_, lengths @ .., k] = arguments;
+        let (mut lent, s) = memories(lengths, k, s)?;
+        let (&[low, high, side], input) = s.split_first_chunk().ok_or(Unfit)?;
+        let mask = u16::from_le_bytes([low, high]);
+        let chosen = Chosen::from_number(usize::from(side));
+        let [left_list, right_list, cells, terms] = &mut lent;
+        let explanation =
+            explain_input_masked(input, mask, chosen, left_list, right_list, cells, terms);
+        self.explanation(explanation);
         lent.into_iter().for_each(|memory| self.sum(memory));
         Ok(())
     }

@@ -14,7 +14,7 @@ use std::fmt::{Display, Write};
 use crate::line::{self, line_of};
 use crate::read::{read_program, read_tables};
 use crate::reply::{Question, Refusal, Reply, Side};
-use crate::{compare_input, compare_programs};
+use crate::{compare_input, compare_input_masked, compare_programs};
 use fields::Outcome;
 use grammar::Grammar;
 use numbers::{flat, narrowed, Row, Tables, ROW};
@@ -149,6 +149,8 @@ impl Line {
             40 => self.compare_pair(arguments, s)?,
             41 => self.count_reply(arguments, s),
             42 => self.totals_line(arguments),
+            43 => self.compare_masked(arguments, s)?,
+            44 => self.explain_input_masked(arguments, s)?,
             _ => return Err(Unfit),
         }
         Ok(())
@@ -284,6 +286,17 @@ impl Line {
         } else {
             compare_input(s, left_list, right_list, cells, terms)
         });
+        lent.into_iter().for_each(|memory| self.sum(memory));
+        Ok(())
+    }
+
+    fn compare_masked(&mut self, arguments: [usize; 6], s: &[u8]) -> Result<(), Unfit> {
+        let [_, lengths @ .., k] = arguments;
+        let (mut lent, s) = memories(lengths, k, s)?;
+        let (&mask, input) = s.split_first_chunk().ok_or(Unfit)?;
+        let mask = u16::from_le_bytes(mask);
+        let [left_list, right_list, cells, terms] = &mut lent;
+        self.reply(compare_input_masked(input, mask, left_list, right_list, cells, terms));
         lent.into_iter().for_each(|memory| self.sum(memory));
         Ok(())
     }

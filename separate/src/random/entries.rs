@@ -16,11 +16,12 @@ const POOL: usize = 32;
 /// Entries with how often each is called. 0 stands for records that no entry
 /// has.
 #[rustfmt::skip]
-const WEIGHTS: [(u8, usize); 40] = [
+const WEIGHTS: [(u8, usize); 42] = [
     (0, 1), (1, 3), (2, 1), (3, 1), (4, 1), (5, 2), (6, 2), (7, 3), (8, 3), (9, 4),
     (10, 2), (11, 2), (12, 3), (13, 3), (14, 3), (15, 4), (16, 3), (17, 2),
     (18, 12), (19, 12), (20, 6), (21, 5), (22, 6), (23, 6), (24, 1), (25, 2), (26, 2), (30, 8), (31, 3), (32, 3),
     (33, 3), (34, 3), (35, 2), (36, 3), (37, 3), (38, 3), (39, 3), (40, 5), (41, 3), (42, 2),
+    (43, 4), (44, 4),
 ];
 
 /// Words that give terms of kind 19 the mixes 0, 1, 2 …, so one bucket.
@@ -50,7 +51,7 @@ impl Iterator for Records {
             18 | 19 => self.nested(entry),
             20..=23 => self.part(entry),
             30 => self.store(),
-            31 | 32 | 34 | 38 => self.pair(entry),
+            31 | 32 | 34 | 38 | 43 | 44 => self.pair(entry),
             33 => self.reply(),
             35 => self.stretch(),
             36 => self.origin(),
@@ -207,7 +208,7 @@ impl Records {
         let length = self.random.below(120);
         let mut record = self.random.bytes(length);
         if let Some(entry) = record.first_mut() {
-            *entry = *self.random.pick(&[0, 10, 18, 27, 29, 30, 31, 34, 40, 43, 255]);
+            *entry = *self.random.pick(&[0, 10, 18, 27, 29, 30, 31, 34, 40, 43, 44, 45, 255]);
         }
         record
     }
@@ -405,9 +406,11 @@ impl Records {
         record(33, numbers, &[])
     }
 
-    /// Two programs, under a mask where they are explained, or framed input.
+    /// Two programs or framed input, behind the mask and the side that the
+    /// entry takes.
     fn pair(&mut self, entry: u8) -> Vec<u8> {
-        let (left, mut bytes) = if entry == 32 || entry == 38 {
+        let framed = !matches!(entry, 31 | 34);
+        let (left, mut bytes) = if framed {
             (0, self.random.pick(&self.pool).clone())
         } else {
             let (left, right) = self.programs();
@@ -417,17 +420,25 @@ impl Records {
             bytes = self.soup();
         }
         self.damage(&mut bytes);
-        let left =
-            if self.random.chance(90) { left.min(bytes.len()) } else { self.number(bytes.len()) };
-        if entry == 38 && self.random.chance(98) {
-            bytes.insert(0, self.side());
+        // 43 and 44 have no first argument.
+        let left = if entry > 40 || self.random.chance(90) {
+            left.min(bytes.len())
+        } else {
+            self.number(bytes.len())
+        };
+        let mut head = Vec::new();
+        if matches!(entry, 34 | 43 | 44) {
+            head.extend(mask(&mut self.random).to_le_bytes());
         }
-        if entry == 34 {
-            let head = [&mask(&mut self.random).to_le_bytes()[..], &[self.side()]].concat();
-            let short = self.random.chance(2);
-            bytes =
-                if short { head[..self.random.below(4)].to_vec() } else { [head, bytes].concat() };
+        if matches!(entry, 34 | 38 | 44) {
+            head.push(self.side());
         }
+        let short = !head.is_empty() && self.random.chance(2);
+        let bytes = if short {
+            head[..self.random.below(head.len() + 1)].to_vec()
+        } else {
+            [head, bytes].concat()
+        };
         let [one, other, cells, terms] = lengths(&mut self.random, 8);
         let garbage = any_words(&mut self.random);
         let lent = [words(&garbage), bytes].concat();

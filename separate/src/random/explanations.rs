@@ -1,11 +1,12 @@
-//! Random records of `explain`: pairs that differ in most cases, under masks
-//! and for both sides. Half come from random pairs, half are nests of their own,
+//! Random records of `explain` and of its twins over framed input: pairs that
+//! differ in most cases, under masks or plain, and for both sides. Half come from random pairs, half are nests of their own,
 //! where loops of any depth write an element again and again.
 
 use super::changes::change;
 use super::entries::{any_words, lengths, mask, record, words, RECORD};
-use super::pairs::bytes_of;
+use super::pairs::{bytes_of, frame};
 use super::{Pairs, Random, ATTEMPTS};
+use crate::compare::ALL;
 use crate::input::split;
 use crate::limits::ITEM_NESTING;
 use crate::notation::parse;
@@ -34,10 +35,18 @@ impl Iterator for Explanations {
         let Masked { left, right, mask } = self.pair();
         let garbage = any_words(&mut self.random);
         let side = self.random.below(2) as u8;
-        let mask = mask.to_le_bytes();
-        let lent = [&words(&garbage)[..], &mask, &[side], &left, &right].concat();
+        let [low, high] = mask.to_le_bytes();
+        // `explain`, `explain_input` and `explain_input_masked`.
+        let entry = [34, 38, 44][self.random.weighted(&[70, 12, 18])];
+        let head = if entry == 38 { vec![side] } else { vec![low, high, side] };
+        let (first, pair) = match entry {
+            34 => (left.len(), [left, right].concat()),
+            _ => (0, frame(&left, &right)),
+        };
+        let lent = [words(&garbage), head, pair].concat();
         let [one, other, cells, terms] = lengths(&mut self.random, 1);
-        let mut record = record(34, [left.len(), one, other, cells, terms, garbage.len()], &lent);
+        let arguments = [first, one, other, cells, terms, garbage.len()];
+        let mut record = record(entry, arguments, &lent);
         record.truncate(RECORD);
         Some(record)
     }
@@ -58,7 +67,7 @@ impl Explanations {
     /// Mostly with the array that differs, or there is nothing to explain.
     fn mask(&mut self, left: &[u8], right: &[u8]) -> u16 {
         let mask = mask(&mut self.random);
-        match self.work.programs(left, right) {
+        match self.work.programs_masked(left, right, ALL) {
             Reply::Differs { array, .. } if self.random.chance(70) => mask | 1 << array,
             _ => mask,
         }
@@ -91,7 +100,7 @@ impl Explanations {
             let left = nest(&mut self.random, &head, filling);
             let Some(right) = self.other(&left, &head, filling) else { continue };
             pair = (bytes_of(&left), bytes_of(&right));
-            if matches!(self.work.programs(&pair.0, &pair.1), Reply::Differs { .. }) {
+            if matches!(self.work.programs_masked(&pair.0, &pair.1, ALL), Reply::Differs { .. }) {
                 break;
             }
         }

@@ -6,6 +6,7 @@ use super::refusals::refused;
 use super::rewrites::{renumber_arrays, swap_arguments, IF_INDEPENDENT, SAFE};
 use super::unwritten::{complete, unwritten_by, with_inout};
 use super::{templates, Random, ATTEMPTS};
+use crate::compare::ALL;
 use crate::limits::PROGRAM_BYTES;
 use crate::reply::Reply;
 use crate::tables::{arity, Role, MARKED};
@@ -109,7 +110,7 @@ impl Pairs {
     }
 
     fn reply(&mut self, left: &Source, right: &Source) -> Reply {
-        self.work.programs(&bytes_of(left), &bytes_of(right))
+        self.work.programs_masked(&bytes_of(left), &bytes_of(right), ALL)
     }
 
     fn are_equal(&mut self, left: &Source, right: &Source) -> bool {

@@ -115,6 +115,7 @@ fn subscripts_of(extents: &[u16], cell: usize, loops: usize) -> Vec<Form> {
 #[cfg(test)]
 mod tests {
     use super::*;
+    use crate::compare::ALL;
     use crate::notation::parse;
     use crate::random::programs::program;
     use crate::reply::Reply;
@@ -170,7 +171,7 @@ mod tests {
             let source = program(&mut random, &mut work);
             let completed = complete(&source, &mut random, &mut work);
             let bytes = encode(&completed).bytes;
-            assert!(matches!(work.programs(&bytes, &bytes), Reply::Equal { .. }));
+            assert!(matches!(work.programs_masked(&bytes, &bytes, ALL), Reply::Equal { .. }));
             let more = completed.items.len() > source.items.len();
             first += usize::from(more && completed.items.ends_with(&source.items));
             last += usize::from(more && completed.items.starts_with(&source.items));
