@@ -69,7 +69,7 @@ fn line(work: &mut Work, left: &[u8], right: &[u8]) -> String {
 
 fn expected(one: &Expression, other: &Expression) -> &'static str {
     if alike(one, other) {
-        "equal 2"
+        "equal 1"
     } else {
         "differs 0 0"
     }

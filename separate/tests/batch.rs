@@ -3,8 +3,9 @@
 mod common;
 use std::io::{self, Read};
 
-use common::{l_with, line, L};
+use common::{l_with, line_all, L};
 use separate::batch::{answer, pairs, Totals, PAIRS};
+use separate::compare::ALL;
 use separate::random::Pairs;
 use separate::{line_of, line_of_totals, Reply, Side, Work};
 
@@ -72,7 +73,7 @@ fn model(batch: &[u8]) -> Vec<String> {
             CUT
         } else {
             let middle = at + 4 + left;
-            lines.push(line(&batch[at + 4..middle], &batch[middle..middle + right]));
+            lines.push(line_all(&batch[at + 4..middle], &batch[middle..middle + right]));
             at = middle + right;
             continue;
         };
@@ -90,7 +91,8 @@ fn output(batch: &[u8]) -> String {
     assert!(out.ends_with(&format!("{}\n", line_of_totals(totals))));
     let (mut work, mut split, mut lines) = (Work::default(), Totals::default(), String::new());
     for pair in pairs(batch) {
-        let reply = pair.map_or_else(|no| no, |(left, right)| work.programs(left, right));
+        let reply =
+            pair.map_or_else(|no| no, |(left, right)| work.programs_masked(left, right, ALL));
         split.count(reply);
         lines += &format!("{}\n", line_of(reply));
     }
@@ -367,7 +369,7 @@ fn random_pairs_and_their_totals() {
         let Ok((left, right)) = separate::input::split(&input) else { continue };
         if right.len() <= 16_384 {
             batch.extend(pair(left, right));
-            lines.push(line_of(work.programs(left, right)).to_string());
+            lines.push(line_of(work.programs_masked(left, right, ALL)).to_string());
         }
     }
     assert!(lines.len() > 300);

@@ -1,8 +1,10 @@
 //! The corners that decide replies, one test or more for each.
 
 mod common;
-use common::{asm, l_with, line, line_of_texts, place_of, refusal, refusal_of_text, L};
-use separate::{line_of, Work};
+use common::{
+    asm, l_with, line, line_all_of_texts, line_masked, line_of_texts, place_of, refusal,
+    refusal_of_text, L,
+};
 
 // One field: first "is it all there", then its own questions in order.
 
@@ -289,9 +291,9 @@ fn no_swap() {
     let text = |items: &str| format!("array A inout [2] array T local [1] {items}");
     let copies = text("A[0] = A[1] A[1] = A[0]");
     let swap = text("T[0] = A[0] A[0] = A[1] A[1] = T[0]");
-    assert_eq!(line_of_texts(&copies, &swap), "differs 0 1");
-    assert_eq!(line_of_texts(&copies, &text("A[0] = A[1]")), "equal 2");
-    assert_eq!(line_of_texts(&swap, &text("")), "differs 0 0");
+    assert_eq!(line_all_of_texts(&copies, &swap), "differs 0 1");
+    assert_eq!(line_all_of_texts(&copies, &text("A[0] = A[1]")), "equal 2");
+    assert_eq!(line_all_of_texts(&swap, &text("")), "differs 0 0");
 }
 
 #[test]
@@ -315,32 +317,32 @@ fn terms_4094(more: &str) -> String {
 
 #[test]
 fn terms_of_locals_and_of_values_overwritten_count() {
-    let none = line_of_texts(&terms_4094(""), &terms_4094(""));
+    let none = line_all_of_texts(&terms_4094(""), &terms_4094(""));
     assert_eq!(none, "equal 2");
-    assert_eq!(line_of_texts(&terms_4094("T[1] = const 1"), &terms_4094("")), "equal 2");
+    assert_eq!(line_all_of_texts(&terms_4094("T[1] = const 1"), &terms_4094("")), "equal 2");
     // One constant on each side: 4,096 terms, and 4,097 if a third comes.
     assert_eq!(
-        line_of_texts(&terms_4094("T[1] = const 1"), &terms_4094("T[1] = const 2")),
+        line_all_of_texts(&terms_4094("T[1] = const 1"), &terms_4094("T[1] = const 2")),
         "equal 2"
     );
     let shared = "op f/1 array A inout [2] array T local [2]";
     let two = format!("{shared} T[1] = const 1 T[1] = const 2");
-    assert_eq!(line_of_texts(&terms_4094(""), &two), "equal 2");
+    assert_eq!(line_all_of_texts(&terms_4094(""), &two), "equal 2");
     let three = format!("{shared} T[1] = const 1 T[1] = const 2 T[1] = const 3");
-    assert_eq!(line_of_texts(&terms_4094(""), &three), "refused both 24 0");
-    assert_eq!(line_of_texts(&three, &terms_4094("")), "refused both 24 0");
+    assert_eq!(line_all_of_texts(&terms_4094(""), &three), "refused both 24 0");
+    assert_eq!(line_all_of_texts(&three, &terms_4094("")), "refused both 24 0");
 }
 
 #[test]
 fn starting_cells_count_when_they_are_parts() {
     let shared = "op f/1 array A inout [2] array T local [2]";
     let two = format!("{shared} T[0] = A[0] T[0] = A[1]");
-    assert_eq!(line_of_texts(&terms_4094(""), &two), "equal 2");
+    assert_eq!(line_all_of_texts(&terms_4094(""), &two), "equal 2");
     let three = format!("{shared} T[0] = f(A[0]) T[0] = A[1]");
-    assert_eq!(line_of_texts(&terms_4094(""), &three), "refused both 24 0");
+    assert_eq!(line_all_of_texts(&terms_4094(""), &three), "refused both 24 0");
     // Literals known already add nothing, whatever cell they go to.
     let known = format!("{shared} T[0] = f(17) T[0] = A[1] A[0] = A[0]");
-    assert_eq!(line_of_texts(&terms_4094(""), &known), "equal 2");
+    assert_eq!(line_all_of_texts(&terms_4094(""), &known), "equal 2");
 }
 
 #[test]
@@ -348,24 +350,24 @@ fn equal_terms_of_both_sides_count_once() {
     let text = terms_4094("T[1] = const 8 T[1] = T[0]");
     assert_eq!(refusal_of_text(&text), Some((19, place_of(&asm(&text), &[1, 1, 1, 0, 0x10]))));
     let text = terms_4094("A[0] = const 8");
-    assert_eq!(line_of_texts(&text, &text), "equal 2");
+    assert_eq!(line_all_of_texts(&text, &text), "equal 2");
 }
 
 #[test]
 fn unwritten_beside_written() {
     let head = "op f/1 array A inout [2] array B inout [1]";
     let text = |items: &str| format!("{head} {items}");
-    assert_eq!(line_of_texts(&text("A[0] = A[0]"), &text("")), "equal 3");
-    assert_eq!(line_of_texts(&text(""), &text("A[1] = A[1]")), "equal 3");
-    assert_eq!(line_of_texts(&text("A[1] = A[0]"), &text("")), "differs 0 1");
-    assert_eq!(line_of_texts(&text(""), &text("B[0] = A[0]")), "differs 1 0");
-    assert_eq!(line_of_texts(&text("A[1] = f(A[1])"), &text("")), "differs 0 1");
+    assert_eq!(line_all_of_texts(&text("A[0] = A[0]"), &text("")), "equal 3");
+    assert_eq!(line_all_of_texts(&text(""), &text("A[1] = A[1]")), "equal 3");
+    assert_eq!(line_all_of_texts(&text("A[1] = A[0]"), &text("")), "differs 0 1");
+    assert_eq!(line_all_of_texts(&text(""), &text("B[0] = A[0]")), "differs 1 0");
+    assert_eq!(line_all_of_texts(&text("A[1] = f(A[1])"), &text("")), "differs 0 1");
     // There and back again.
     let around = "A[0] = A[1] A[1] = A[0] A[0] = 5";
-    assert_eq!(line_of_texts(&text(around), &text("A[0] = 5")), "equal 3");
+    assert_eq!(line_all_of_texts(&text(around), &text("A[0] = 5")), "equal 3");
     // Read on one side, untouched on the other.
     let read = "B[0] = A[0]";
-    assert_eq!(line_of_texts(&text(read), &text("A[0] = A[0] B[0] = A[0]")), "equal 3");
+    assert_eq!(line_all_of_texts(&text(read), &text("A[0] = A[0] B[0] = A[0]")), "equal 3");
 }
 
 // 22 and 23 are asked of tables, before any term is made; bits of the mask for
@@ -394,13 +396,13 @@ fn marks_on_one_side() {
         [(&none, &first, 0), (&first, &second, 0), (&second, &none, 1), (&both, &first, 1)]
     {
         let line = format!("refused both 23 {operator}");
-        assert_eq!(line_of_texts(left, right), line);
-        assert_eq!(line_of_texts(right, left), line);
+        assert_eq!(line_all_of_texts(left, right), line);
+        assert_eq!(line_all_of_texts(right, left), line);
     }
-    assert_eq!(line_of_texts(&first, &text("2*", "1")), "refused both 23 1");
+    assert_eq!(line_all_of_texts(&first, &text("2*", "1")), "refused both 23 1");
     // The version is no part of the tables.
-    assert_eq!(line_of_texts(&none, &format!("version 2 {none}")), "equal 1");
-    assert_eq!(line_of_texts(&format!("version 2 {both}"), &both), "equal 1");
+    assert_eq!(line_all_of_texts(&none, &format!("version 2 {none}")), "equal 1");
+    assert_eq!(line_all_of_texts(&format!("version 2 {both}"), &both), "equal 1");
 }
 
 #[test]
@@ -408,9 +410,7 @@ fn masks() {
     let head = "array A in [5] array B out [3] array C inout [4] array D local [2]";
     let left = asm(&format!("{head} B[0] = 0 B[1] = 1 B[2] = 0 C[2] = 2 D[0] = 3"));
     let right = asm(&format!("{head} B[0] = 0 B[1] = 7 B[2] = 0 C[2] = 8 D[0] = 9"));
-    let line = |left: &[u8], right: &[u8], mask| {
-        line_of(Work::default().programs_masked(left, right, mask)).to_string()
-    };
+    let line = line_masked;
     assert_eq!(line(&left, &right, 0xFFFF), "differs 1 1");
     assert_eq!(line(&left, &right, 0b0010), "differs 1 1");
     assert_eq!(line(&left, &right, 0b0100), "differs 2 2");
@@ -433,11 +433,11 @@ fn the_first_difference_is_named() {
     let head = "array A inout [2, 3] array B in [4] array C inout [2, 2, 2]";
     let text = |items: &str| format!("{head} {items}");
     let all = "C[1, 1, 1] = 1 C[0, 1, 0] = 1 A[1, 2] = 1 A[1, 0] = 1";
-    assert_eq!(line_of_texts(&text(all), &text("")), "differs 0 3");
-    assert_eq!(line_of_texts(&text("C[1, 1, 1] = 1 A[1, 2] = 1"), &text("")), "differs 0 5");
-    assert_eq!(line_of_texts(&text("C[1, 1, 1] = 1 C[1, 0, 1] = 1"), &text("")), "differs 2 5");
-    assert_eq!(line_of_texts(&text("C[1, 1, 1] = 1"), &text("")), "differs 2 7");
-    assert_eq!(line_of_texts(&text(all), &text(all)), "equal 14");
+    assert_eq!(line_all_of_texts(&text(all), &text("")), "differs 0 3");
+    assert_eq!(line_all_of_texts(&text("C[1, 1, 1] = 1 A[1, 2] = 1"), &text("")), "differs 0 5");
+    assert_eq!(line_all_of_texts(&text("C[1, 1, 1] = 1 C[1, 0, 1] = 1"), &text("")), "differs 2 5");
+    assert_eq!(line_all_of_texts(&text("C[1, 1, 1] = 1"), &text("")), "differs 2 7");
+    assert_eq!(line_all_of_texts(&text(all), &text(all)), "equal 14");
 }
 
 #[test]
@@ -516,9 +516,9 @@ fn swaps_are_seen_through_cells() {
     let text = |items: &str| format!("{head} {items}");
     let direct = text("B[0] = f(f(A[0], A[1]), A[2])");
     let through = text("T[1] = A[2] T[0] = f(A[1], A[0]) A[2] = A[2] B[0] = f(T[1], T[0])");
-    assert_eq!(line_of_texts(&direct, &through), "equal 4");
+    assert_eq!(line_all_of_texts(&direct, &through), "equal 4");
     let late = text("T[0] = f(A[1], A[0]) A[2] = A[1] B[0] = f(A[2], T[0]) A[2] = A[1]");
-    assert_eq!(line_of_texts(&direct, &late), "differs 0 2");
+    assert_eq!(line_all_of_texts(&direct, &late), "differs 0 2");
 }
 
 #[test]
@@ -557,9 +557,9 @@ fn shared_arrays_correspond_by_number() {
 #[test]
 fn shared_parts_stay_small() {
     let text = "op f/2 array A inout [1] for i = 1 to 2000 { A[0] = f(A[0], A[0]) }";
-    assert_eq!(line_of_texts(text, text), "equal 1");
+    assert_eq!(line_all_of_texts(text, text), "equal 1");
     let other = text.replace("2000", "1999");
-    assert_eq!(line_of_texts(text, &other), "differs 0 0");
+    assert_eq!(line_all_of_texts(text, &other), "differs 0 0");
 }
 
 /// Every argument position holds an operator at some depth, so that as many

@@ -1,7 +1,8 @@
-//! Source document 003: one-dimensional Jacobi, 16 points, two time steps.
+//! Source document 003: one-dimensional Jacobi, 16 points, two time steps. Both
+//! arrays are inout, so all bits of the mask are set.
 
 mod common;
-use common::{asm, line_of_texts};
+use common::{asm, line_all_of_texts};
 use separate::limits::LIST_WORDS;
 use separate::list::{decode, Record};
 use separate::read::read_program;
@@ -71,8 +72,8 @@ fn both_have_56_updates_and_224_nodes() {
 
 #[test]
 fn the_tiled_variant_is_equal() {
-    assert_eq!(line_of_texts(ORIGINAL, TILED), "equal 32");
-    assert_eq!(line_of_texts(TILED, ORIGINAL), "equal 32");
+    assert_eq!(line_all_of_texts(ORIGINAL, TILED), "equal 32");
+    assert_eq!(line_all_of_texts(TILED, ORIGINAL), "equal 32");
 }
 
 /// Figure 3 lists the updates of both columns.
@@ -96,19 +97,19 @@ fn the_updates_come_in_the_order_of_figure_3() {
 fn other_roles_of_the_second_array() {
     let with = |role: &str| [ORIGINAL, TILED].map(|text| text.replace("B inout", role));
     let [original, tiled] = with("B out");
-    assert_eq!(line_of_texts(&original, &tiled), "differs 1 0");
+    assert_eq!(line_all_of_texts(&original, &tiled), "differs 1 0");
     let [original, tiled] = with("B local");
-    assert_eq!(line_of_texts(&original, &tiled), "equal 16");
+    assert_eq!(line_all_of_texts(&original, &tiled), "equal 16");
     // One tile less: B[14] is read and not yet written.
     let wrong = tiled.replace("- c0 + 14 >=", "- c0 + 13 >=");
-    assert_eq!(line_of_texts(&original, &wrong), "refused right 17 43");
+    assert_eq!(line_all_of_texts(&original, &wrong), "refused right 17 43");
 }
 
 #[test]
 fn small_mistakes_in_the_tiled_variant_are_found() {
     let mistake = |from: &str, to: &str| {
         assert!(TILED.contains(from));
-        line_of_texts(ORIGINAL, &TILED.replace(from, to))
+        line_all_of_texts(ORIGINAL, &TILED.replace(from, to))
     };
     assert_eq!(mistake("for odd = 15 to 17", "for odd = 15 to 16"), "differs 0 14");
     assert_eq!(mistake("add(A[0], A[1])", "add(A[1], A[0])"), "differs 0 1");

@@ -1,7 +1,7 @@
 //! Each limit: the greatest that passes and the least that does not.
 
 mod common;
-use common::{asm, line, line_of_texts, refusal, refusal_of_text};
+use common::{asm, line_all, line_all_of_texts, line_of_texts, refusal, refusal_of_text};
 use separate::limits::LIST_WORDS;
 use separate::read::read_program;
 use separate::run::{run, Counts};
@@ -15,7 +15,7 @@ fn counts(text: &str) -> Counts {
 fn cells() {
     let two = "array A in [1024] array B inout [1024]";
     assert_eq!(refusal_of_text(two), None);
-    assert_eq!(line_of_texts(two, two), "equal 1024");
+    assert_eq!(line_all_of_texts(two, two), "equal 1024");
     let three = "array A in [1024] array B inout [1024] array C local [1]";
     // Mark, version, two counts, two arrays of four bytes.
     assert_eq!(refusal_of_text(three), Some((8, 15)));
@@ -77,7 +77,7 @@ fn rounds() {
     };
     assert_eq!(counts(&rounds(1)).rounds, 65_536);
     assert_eq!(refusal_of_text(&rounds(1)), None);
-    assert_eq!(line_of_texts(&rounds(1), &rounds(1)), "equal 1");
+    assert_eq!(line_all_of_texts(&rounds(1), &rounds(1)), "equal 1");
     let program = asm(&rounds(2));
     // The last loop: at top level, from 1 to 2 by 1.
     let code = common::place_of(&program, &[2, 1, 0, 2, 0, 1, 0, 0]);
@@ -173,12 +173,12 @@ fn program_bytes() {
     let longest = filled(16_384);
     assert_eq!(longest.len(), 16_384);
     assert_eq!(refusal(&longest), None);
-    assert_eq!(line(&longest, &longest), "equal 1");
+    assert_eq!(line_all(&longest, &longest), "equal 1");
     let mut longer = longest.clone();
     longer.push(0);
     assert_eq!(refusal(&longer), Some((2, 0)));
-    assert_eq!(line(&longest, &longer), "refused right 2 0");
-    assert_eq!(line(&longer, &longest), "refused left 2 0");
+    assert_eq!(line_all(&longest, &longer), "refused right 2 0");
+    assert_eq!(line_all(&longer, &longest), "refused left 2 0");
 }
 
 #[test]

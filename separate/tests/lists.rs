@@ -369,7 +369,7 @@ fn lists_are_compared_as_their_programs_are() {
     ];
     for right in rights {
         let lists = line_of_lists(&list_of(&left), &list_of(&right), 0xFFFF);
-        assert_eq!(lists, common::line_of_texts(&left, &right), "{right}");
+        assert_eq!(lists, common::line_all_of_texts(&left, &right), "{right}");
     }
 }
 

@@ -103,6 +103,13 @@ impl<'a> Outcome<'a> {
     }
 }
 
+/// The bits of the out arrays.
+fn out_bits(list: &List) -> u16 {
+    let arrays = list.tables.arrays().iter().enumerate();
+    let outs = arrays.filter(|(_, declared)| declared.role == Role::Out);
+    outs.fold(0, |mask, (array, _)| mask | 1 << array)
+}
+
 /// Those that are compared, in their order.
 fn elements<'a>(list: &'a List, mask: u16) -> impl Iterator<Item = (usize, usize)> + 'a {
     let arrays = list.tables.arrays().iter().enumerate();
@@ -145,9 +152,10 @@ fn kind(reply: Reply) -> Option<usize> {
     }
 }
 
+/// Plain, so in the out arrays, and under all bits or any.
 #[test]
 fn random_pairs_are_answered_as_values_say() {
-    let mut work = Work::default();
+    let (mut work, mut random) = (Work::default(), Random::new(8));
     let mut counts = [0; 3];
     for input in Pairs::new(1_234).take(2_500) {
         let reply = work.input(&input);
@@ -159,7 +167,10 @@ fn random_pairs_are_answered_as_values_say() {
             list
         });
         let [left, right] = [decode(&lists[0]).unwrap(), decode(&lists[1]).unwrap()];
-        check(reply, &left, &right, 0xFFFF);
+        check(reply, &left, &right, out_bits(&left));
+        let any = random.draw() as u16;
+        let mask = *random.pick(&[0xFFFF, 0xFFFF, any]);
+        check(work.input_masked(&input, mask), &left, &right, mask);
         counts[kind] += 1;
     }
     assert!(counts[0] > 500 && counts[1] > 500 && counts[2] > 10, "{counts:?}");

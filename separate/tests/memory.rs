@@ -4,8 +4,9 @@ mod common;
 use common::{asm, frame, L};
 use separate::limits::{CELL_WORDS, LIST_WORDS, TERM_WORDS};
 use separate::{
-    check_list, compare_input, compare_lists, compare_programs, compare_programs_masked, line_of,
-    unroll, Refusal, Reply, Side,
+    check_list, compare_input, compare_input_masked, compare_lists, compare_programs,
+    compare_programs_masked, explain_input, explain_input_masked, line_of, line_of_explanation,
+    unroll, Chosen, Explanation, Refusal, Reply, Side,
 };
 
 const SHORT: Reply = Reply::Refused { side: Side::Both, number: 25, place: 0 };
@@ -59,9 +60,9 @@ fn programs() -> Vec<(Vec<u8>, Vec<u8>, &'static str)> {
         (L.to_vec(), asm("array A out [1]"), "refused both 22 0"),
         (asm("op f/1 array A out [1]"), asm("op f/2 array A out [1]"), "refused both 23 0"),
         (
-            asm("op f/2* array A inout [3] A[0] = f(f(A[1], A[2]), A[0])"),
-            asm("op f/2* array A inout [3] A[0] = f(A[0], f(A[2], A[1]))"),
-            "equal 3",
+            asm("op f/2* array A in [3] array B out [1] B[0] = f(f(A[1], A[2]), A[0])"),
+            asm("op f/2* array A in [3] array B out [1] B[0] = f(A[0], f(A[2], A[1]))"),
+            "equal 1",
         ),
         (terms.clone(), terms, "refused both 24 0"),
         (L.to_vec(), vec![0; 16_385], "refused right 2 0"),
@@ -85,6 +86,31 @@ fn programs_leave_zeros() {
             let input = frame(&left, &right);
             assert_eq!(lent.call(|a, b, c, d| compare_input(&input, a, b, c, d)), reply);
             assert!(lent.is_zero(), "{line}");
+            let mut lent = Lent::of(lengths);
+            let masked = lent.call(|a, b, c, d| compare_input_masked(&input, 0xFFFF, a, b, c, d));
+            assert_eq!(masked, reply);
+            assert!(lent.is_zero(), "{line}");
+        }
+    }
+}
+
+#[test]
+fn explanations_leave_zeros() {
+    for (left, right, line) in programs() {
+        let input = frame(&left, &right);
+        let kind = if line.starts_with("equal") { "refused both 27 0" } else { line };
+        let kind = kind.replace("differs", "written");
+        for chosen in [Chosen::Left, Chosen::Right] {
+            let mut lent = Lent::of(MORE);
+            let plain = lent.call(|a, b, c, d| explain_input(&input, chosen, a, b, c, d));
+            assert!(lent.is_zero(), "{line}");
+            let mut lent = Lent::of(MORE);
+            let masked =
+                lent.call(|a, b, c, d| explain_input_masked(&input, 0xFFFF, chosen, a, b, c, d));
+            assert!(lent.is_zero(), "{line}");
+            assert_eq!(masked, plain);
+            let explained = line_of_explanation(plain).to_string();
+            assert!(explained.starts_with(&kind), "{explained}, {line}");
         }
     }
 }
@@ -93,7 +119,21 @@ fn programs_leave_zeros() {
 fn a_bad_frame_leaves_zeros() {
     for input in [&[][..], &[1], &[5, 0, 1], &[0xFF, 0xFF]] {
         let mut lent = Lent::of(MORE);
-        lent.call(|a, b, c, d| compare_input(input, a, b, c, d));
+        let reply = lent.call(|a, b, c, d| compare_input(input, a, b, c, d));
+        assert!(lent.is_zero());
+        let mut lent = Lent::of(MORE);
+        assert_eq!(lent.call(|a, b, c, d| compare_input_masked(input, 5, a, b, c, d)), reply);
+        assert!(lent.is_zero());
+        let Reply::Refused { side, number, place } = reply else { panic!("{reply:?}") };
+        let refused = Explanation::Refused { side, number, place };
+        let mut lent = Lent::of(MORE);
+        let explained = lent.call(|a, b, c, d| explain_input(input, Chosen::Left, a, b, c, d));
+        assert_eq!(explained, refused);
+        assert!(lent.is_zero());
+        let mut lent = Lent::of(MORE);
+        let explained =
+            lent.call(|a, b, c, d| explain_input_masked(input, 5, Chosen::Right, a, b, c, d));
+        assert_eq!(explained, refused);
         assert!(lent.is_zero());
     }
 }
@@ -114,6 +154,15 @@ fn short_memory_is_asked_first_and_not_touched() {
                 assert_eq!(reply, SHORT);
                 assert_eq!(lent.call(|a, b, c, d| compare_input(&input, a, b, c, d)), SHORT);
                 assert_eq!(lent.call(|a, b, c, d| compare_input(&[], a, b, c, d)), SHORT);
+                let reply = lent.call(|a, b, c, d| compare_input_masked(&input, 0, a, b, c, d));
+                assert_eq!(reply, SHORT);
+                let refused = Explanation::Refused { side: Side::Both, number: 25, place: 0 };
+                let explained =
+                    lent.call(|a, b, c, d| explain_input(&input, Chosen::Left, a, b, c, d));
+                assert_eq!(explained, refused);
+                let explained = lent
+                    .call(|a, b, c, d| explain_input_masked(&input, 3, Chosen::Left, a, b, c, d));
+                assert_eq!(explained, refused);
                 assert_eq!(lent.call(|a, b, c, d| compare_lists(a, b, 9, c, d)), SHORT);
                 assert!(lent.is_untouched());
             }

@@ -2,7 +2,7 @@
 
 mod common;
 use common::{
-    asm, frame, l_with, line, line_for, line_of_texts, place_of, refusal, refusal_of_text, L,
+    asm, frame, l_with, line, line_all_of_texts, line_for, place_of, refusal, refusal_of_text, L,
 };
 
 #[test]
@@ -236,7 +236,7 @@ fn number_20() {
 
 #[test]
 fn number_22() {
-    let unlike = |left: &str, right: &str| line_of_texts(left, right);
+    let unlike = |left: &str, right: &str| line_all_of_texts(left, right);
     let base = "array A in [2] array B inout [3]";
     assert_eq!(unlike(base, "array A in [2] array B inout [4]"), "refused both 22 1");
     assert_eq!(unlike(base, "array A inout [2] array B inout [3]"), "refused both 22 0");
@@ -258,7 +258,7 @@ fn number_22() {
 #[test]
 fn number_23() {
     let with = |operators: &str| format!("{operators} array A inout [1]");
-    let unlike = |left, right| line_of_texts(&with(left), &with(right));
+    let unlike = |left, right| line_all_of_texts(&with(left), &with(right));
     assert_eq!(unlike("op f/1 op g/2", "op f/1 op g/3"), "refused both 23 1");
     assert_eq!(unlike("op f/1 op g/2", "op f/2 op g/2"), "refused both 23 0");
     assert_eq!(unlike("op f/1 op g/2", "op f/1"), "refused both 23 1");
@@ -270,7 +270,7 @@ fn number_23() {
 fn number_24() {
     // 2,048 updates that each add a term and a literal, and one starting cell.
     let text = "op f/2 array A inout [1] for i = 1 to 2048 { A[0] = f(A[0], i) }";
-    assert_eq!(line_of_texts(text, text), "refused both 24 0");
+    assert_eq!(line_all_of_texts(text, text), "refused both 24 0");
     let text = "op f/2 array A inout [1] for i = 1 to 2047 { A[0] = f(A[0], i) }";
-    assert_eq!(line_of_texts(text, text), "equal 1");
+    assert_eq!(line_all_of_texts(text, text), "equal 1");
 }

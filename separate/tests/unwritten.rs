@@ -2,13 +2,14 @@
 //! contents of its own, of inout arrays both have the same.
 
 mod common;
-use common::{asm, l_with, line, line_of_texts, L};
+use common::{asm, l_with, line, line_all_of_texts, line_of_texts, L};
 use separate::compare::ALL;
 use separate::{line_of, line_of_explanation, Chosen, Work};
 
-/// The line for the two sides' items behind the same declarations.
+/// The line for the two sides' items behind the same declarations, in out and
+/// inout arrays.
 fn items(head: &str, left: &str, right: &str) -> String {
-    line_of_texts(&format!("{head} {left}"), &format!("{head} {right}"))
+    line_all_of_texts(&format!("{head} {left}"), &format!("{head} {right}"))
 }
 
 #[test]

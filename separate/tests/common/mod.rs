@@ -1,6 +1,7 @@
 //! What several tests use. Each test file uses only some of it.
 #![allow(dead_code)]
 
+use separate::compare::ALL;
 use separate::limits::LIST_WORDS;
 use separate::{line_of, notation, unroll, Refusal, Work};
 
@@ -29,7 +30,7 @@ pub fn line_for(input: &[u8]) -> String {
     line_of(Work::default().input(input)).to_string()
 }
 
-/// The line for two programs.
+/// The line for two programs, in their out arrays.
 pub fn line(left: &[u8], right: &[u8]) -> String {
     let framed = line_for(&frame(left, right));
     let direct = line_of(Work::default().programs(left, right)).to_string();
@@ -37,13 +38,31 @@ pub fn line(left: &[u8], right: &[u8]) -> String {
     framed
 }
 
+/// The line for two programs under a mask.
+pub fn line_masked(left: &[u8], right: &[u8], mask: u16) -> String {
+    let framed = line_of(Work::default().input_masked(&frame(left, right), mask)).to_string();
+    let direct = line_of(Work::default().programs_masked(left, right, mask)).to_string();
+    assert_eq!(framed, direct);
+    framed
+}
+
+/// The line for two programs, in their out and inout arrays.
+pub fn line_all(left: &[u8], right: &[u8]) -> String {
+    line_masked(left, right, ALL)
+}
+
 pub fn asm(text: &str) -> Vec<u8> {
     notation::assemble(text).unwrap_or_else(|error| panic!("{error} in\n{text}"))
 }
 
-/// The line for two programs in the notation.
+/// The line for two programs in the notation, in their out arrays.
 pub fn line_of_texts(left: &str, right: &str) -> String {
     line(&asm(left), &asm(right))
+}
+
+/// The same in their out and inout arrays.
+pub fn line_all_of_texts(left: &str, right: &str) -> String {
+    line_all(&asm(left), &asm(right))
 }
 
 /// Number and place of the refusal of one program.
