@@ -1,7 +1,7 @@
 //! The command line, run as a program.
 
 mod common;
-use common::{frame, l_with, L};
+use common::{asm, frame, l_with, L};
 use std::fs::File;
 use std::io::Write;
 use std::process::{Command, Output, Stdio};
@@ -56,6 +56,69 @@ fn explain_prints_one_line_or_three() {
     }
 }
 
+/// The program's output for an input of `masked`.
+fn masked(input: &[u8]) -> String {
+    let output = separate(&["masked"], input);
+    assert!(output.stderr.is_empty());
+    assert_eq!(output.status.code(), Some(0));
+    text(&output.stdout).to_string()
+}
+
+#[test]
+fn masked_prints_one_line_or_three() {
+    let head = "array A inout [2] array B out [1] B[0] = 1";
+    let [left, right] = ["", "A[1] = 5"].map(|items| asm(&format!("{head} {items}")));
+    let pair = frame(&left, &right);
+    let three = "differs 0 1\nstarting 0 1\nwritten 0 1 22 29\n";
+    for (mask, lines) in [
+        (0xFFFFu16, three),
+        (1, three),
+        (0xFF01, three),
+        (2, "equal 1\n"),
+        (0, "equal 0\n"),
+        (0x0100, "equal 0\n"),
+    ] {
+        assert_eq!(masked(&[&mask.to_le_bytes(), &pair[..]].concat()), lines, "{mask:#x}");
+    }
+    assert_eq!(text(&separate(&["pair"], &pair).stdout), "equal 1\n");
+    assert_eq!(text(&separate(&["explain"], &pair).stdout), "equal 1\n");
+    let other = frame(&left, &asm("array A inout [2] array B out [1] B[0] = 2 A[1] = 5"));
+    let plain = "differs 1 0\nwritten 1 0 15 22\nwritten 1 0 15 22\n";
+    assert_eq!(text(&separate(&["explain"], &other).stdout), plain);
+    assert_eq!(masked(&[&[2, 0], &other[..]].concat()), plain);
+}
+
+#[test]
+fn masked_needs_a_mask_and_a_frame() {
+    let refused = "refused input 1 0\n";
+    let whole = [&[0xFF, 0xFF][..], &frame(&L, &L)].concat();
+    for length in [0, 1, 2, 3, 4, 37] {
+        assert_eq!(masked(&whole[..length]), refused, "{length}");
+    }
+    assert_eq!(masked(&whole[..38]), "refused right 3 0\n");
+    assert_eq!(masked(&whole[..71]), "refused right 3 33\n");
+    assert_eq!(masked(&whole), "equal 2\n");
+    assert_eq!(masked(&[&whole[..], &[7]].concat()), "refused right 14 34\n");
+    assert_eq!(masked(&[0, 0, 1, 64]), "refused left 2 0\n");
+}
+
+/// 32,773 bytes are looked at: a right side of the greatest length, or one more.
+#[test]
+fn masked_reads_so_much_and_no_more() {
+    // Guards of four bytes each between the tables and the closing 00.
+    let mut longest = b"ALP\x01\x00\x00\x01\x02\x01\x01\x00".to_vec();
+    longest.extend([3, 0, 0, 0].repeat(4_093));
+    longest.push(0);
+    assert_eq!(longest.len(), 16_384);
+    let whole = [&[1, 0][..], &frame(&longest, &longest)].concat();
+    assert_eq!(whole.len(), 32_772);
+    assert_eq!(masked(&whole), "equal 1\n");
+    for more in [1, 2, 100_000] {
+        let longer = [&whole[..], &vec![0; more]].concat();
+        assert_eq!(masked(&longer), "refused right 2 0\n", "{more}");
+    }
+}
+
 #[test]
 fn batch_prints_a_line_for_each_pair_and_the_totals() {
     let pair = [&[34, 0, 34, 0][..], &L, &L].concat();
@@ -94,11 +157,13 @@ fn batch_says_where_a_read_failed() {
 
 #[test]
 fn wrong_usage() {
-    let wrong: [&[&str]; 15] = [
+    let wrong: [&[&str]; 17] = [
         &[],
         &["pears"],
         &["pair", "x"],
         &["explain", "x"],
+        &["masked", "x"],
+        &["masked", "FFFF", "x"],
         &["batch", "x"],
         &["batch-lines", "x"],
         &["random-batches", "3"],

@@ -221,6 +221,63 @@ fn explanations_of_framed_input() {
     assert_eq!(call(38, &enough, b""), "38 -");
 }
 
+/// An inout array before an out array, which both differ.
+fn lent_under(mask: u16, head: &[u8]) -> Vec<u8> {
+    let text = |items: &str| common::asm(&format!("array A inout [2] array B out [1] {items}"));
+    let (left, right) = (text("B[0] = 1 A[1] = 4"), text("B[0] = 2"));
+    [&[7, 0, 0, 0], &mask.to_le_bytes()[..], head, &common::frame(&left, &right)].concat()
+}
+
+#[test]
+fn framed_input_under_a_mask() {
+    let enough = [0, 32_768, 33_000, 4_096, 32_768, 1];
+    for (mask, numbers) in
+        [(0xFFFF, "1 0 1"), (1, "1 0 1"), (2, "1 1 0"), (0xFFFE, "1 1 0"), (0, "0 0"), (4, "0 0")]
+    {
+        let line = call(43, &enough, &lent_under(mask, &[]));
+        assert_eq!(line, format!("43 {numbers} 0 0 0 0"), "{mask:#x}");
+    }
+    // The plain entry names the out element.
+    assert_eq!(call(32, &enough[..5], &lent_under(0, &[])[6..]), "32 1 1 0 0 0 0 0");
+    let lent = lent_under(0xFFFF, &[]);
+    assert_eq!(call(43, &enough, &lent[..4]), "43 -");
+    assert_eq!(call(43, &enough, &lent[..5]), "43 -");
+    assert_eq!(call(43, &enough, &lent[..6]), "43 2 3 1 0 0 0 0 0");
+    assert_eq!(call(43, &enough, &lent[..7]), "43 2 3 1 0 0 0 0 0");
+    assert_eq!(call(43, &[0, 1, 2, 0, 0, 1], &lent), "43 2 2 25 0 7 28 0 0");
+    assert_eq!(call(43, &[0, 33_001, 0, 0, 0, 1], &lent), "43 -");
+}
+
+#[test]
+fn explanations_of_framed_input_under_a_mask() {
+    let enough = [0, 32_768, 33_000, 4_096, 32_768, 1];
+    let written = |array, cell, from, to| {
+        format!("44 0 0 0 0 {array} {cell} {from} {to} 0 0 0 0 0 0 0 0 0 0 0 0 0")
+    };
+    for mask in [0xFFFF, 1] {
+        assert_eq!(call(44, &enough, &lent_under(mask, &[0])), written(0, 1, 22, 29));
+        let starting = "44 1 0 0 0 0 1 0 0 0 0 0 0 0 0 0 0 0 0 0 0 0";
+        for side in [1, 2, 255] {
+            assert_eq!(call(44, &enough, &lent_under(mask, &[side])), starting);
+        }
+    }
+    for side in [0, 1] {
+        assert_eq!(call(44, &enough, &lent_under(2, &[side])), written(1, 0, 15, 22));
+        let lent = [&[side], &lent_under(0, &[])[6..]].concat();
+        let plain = call(38, &enough[..5], &lent);
+        assert_eq!(plain.replacen("38", "44", 1), written(1, 0, 15, 22));
+    }
+    let refused = |refusal: &str| format!("44 2 {refusal} 0 0 0 0 0 0 0 0 0 0 0 0 0");
+    assert_eq!(call(44, &enough, &lent_under(4, &[0])), refused("2 27 0") + " 0 0 0 0");
+    let lent = lent_under(0xFFFF, &[1]);
+    for length in [4, 5, 6] {
+        assert_eq!(call(44, &enough, &lent[..length]), "44 -");
+    }
+    assert_eq!(call(44, &enough, &lent[..7]), refused("3 1 0") + " 0 0 0 0");
+    assert_eq!(call(44, &[0, 1, 2, 0, 0, 1], &lent), refused("2 25 0") + " 7 28 0 0");
+    assert_eq!(call(44, &[0, 0, 0, 0, 0, 99], &lent), "44 -");
+}
+
 #[test]
 fn stretches_and_origins() {
     assert_eq!(call(35, &[3, 0, 1, 3], b"abcde"), format!("35 2 {}", 3 * 98 + 99));
@@ -373,6 +430,8 @@ fn every_entry_is_reached_with_and_without_a_no() {
     let noes = ["7 0 10", "8 0 11", "18 0 10", "18 0 12", "19 0 13", "20 0 12", "23 0 9"];
     let all = ["1 0", "1 1", "30 0 25", "31 1", "31 2", "32 1", "32 2", "34 0 0", "34 2"];
     let all = all.into_iter().chain(["34 -", "35 -", "36 0 0", "36 1", "36 2", "-"]);
+    let all = all.chain(["38 0 0", "38 1", "38 2", "38 -", "43 0 0", "43 1", "43 2", "43 -"]);
+    let all = all.chain(["44 0 0", "44 1", "44 2", "44 -"]);
     for kind in noes.into_iter().chain(all) {
         assert!(count(kind) >= 5, "{kind} in {counts:?}");
     }
@@ -402,7 +461,7 @@ fn kind_of_many(record: &[u8]) -> Option<String> {
 #[test]
 fn records_of_many_pairs_reach_everything() {
     let mut counts = BTreeMap::new();
-    for kind in Records::new(5).take(60_000).filter_map(|record| kind_of_many(&record)) {
+    for kind in Records::new(5).take(80_000).filter_map(|record| kind_of_many(&record)) {
         *counts.entry(kind).or_insert(0usize) += 1;
     }
     let count = |kind: &str| counts.get(kind).copied().unwrap_or(0);

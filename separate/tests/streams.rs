@@ -54,15 +54,31 @@ fn two_thousand_pairs_cover_everything() {
     }
 }
 
-/// Mask, side and the two programs of a record of `explain`.
-fn lent(record: &[u8]) -> (u16, u8, &[u8], &[u8]) {
+/// What a record lends to an explanation.
+struct Lent<'a> {
+    /// None where the comparison is plain.
+    mask: Option<u16>,
+    side: u8,
+    left: &'a [u8],
+    right: &'a [u8],
+}
+
+/// Of `explain` (34), `explain_input` (38) or `explain_input_masked` (44).
+fn lent(record: &[u8]) -> Lent<'_> {
     let number = |k: usize| {
         let bytes = &record[1 + 8 * k..][..8];
         u64::from_le_bytes(bytes.try_into().unwrap()) as usize
     };
     let rest = &record[49 + 4 * number(5)..];
-    let (left, right) = rest[3..].split_at(number(0));
-    (u16::from_le_bytes([rest[0], rest[1]]), rest[2], left, right)
+    let (mask, rest) = match record[0] {
+        38 => (None, rest),
+        _ => (Some(u16::from_le_bytes([rest[0], rest[1]])), &rest[2..]),
+    };
+    let (left, right) = match record[0] {
+        34 => rest[1..].split_at(number(0)),
+        _ => separate::input::split(&rest[1..]).unwrap_or((&[], &[])),
+    };
+    Lent { mask, side: rest[0], left, right }
 }
 
 /// How often a program writes an element.
@@ -81,8 +97,13 @@ fn three_thousand_explanations_cover_everything() {
         let line = entries::line(&record);
         let numbers: Vec<i64> =
             line.split(' ').map(|number| number.parse().expect("every record fits")).collect();
-        let (mask, side, left, right) = lent(&record);
-        let masked = if mask == 0xFFFF { "all" } else { "masked" };
+        let Lent { mask, side, left, right } = lent(&record);
+        let masked = match mask {
+            None => "plain",
+            Some(0xFFFF) => "all",
+            Some(_) => "masked",
+        };
+        count(format!("{} {}", record[0], ["written", "starting", "refused"][numbers[1] as usize]));
         match numbers[1] {
             0 => {
                 count(format!("written {side} {masked}"));
@@ -100,10 +121,16 @@ fn three_thousand_explanations_cover_everything() {
     }
     let mut wanted: Vec<_> = (0..=8).map(|depth| (format!("depth {depth}"), 20)).collect();
     for side in 0..2 {
-        for masked in ["all", "masked"] {
-            wanted.push((format!("written {side} {masked}"), 100));
-            wanted.push((format!("starting {side} {masked}"), 30));
+        for (masked, written, starting) in
+            [("all", 100, 30), ("masked", 100, 30), ("plain", 20, 10)]
+        {
+            wanted.push((format!("written {side} {masked}"), written));
+            wanted.push((format!("starting {side} {masked}"), starting));
         }
+    }
+    for entry in [34, 38, 44] {
+        wanted
+            .extend(["written", "starting", "refused"].map(|kind| (format!("{entry} {kind}"), 20)));
     }
     wanted.extend([("again".to_string(), 300), ("negative".to_string(), 100)]);
     wanted.extend([25, 27].map(|number| (format!("refused {number}"), 20)));
@@ -302,7 +329,7 @@ fn unwritten_elements_in_four_thousand_pairs() {
     let mut counts = BTreeMap::new();
     let mut count = |kind: &str| *counts.entry(kind.to_string()).or_insert(0usize) += 1;
     for input in Pairs::new(1).take(4_000) {
-        let reply = work.input(&input);
+        let (reply, all) = (work.input(&input), work.input_masked(&input, ALL));
         if matches!(reply, Reply::Refused { .. }) {
             continue;
         }
@@ -312,6 +339,11 @@ fn unwritten_elements_in_four_thousand_pairs() {
         if let Reply::Differs { array, cell } = reply {
             count(&unwritten_on([&one, &other], array, cell));
             count(if left == right { "differs, itself" } else { "differs, another" });
+        }
+        if let Reply::Differs { array, cell } = all {
+            if all != reply {
+                count(&format!("all: {}", unwritten_on([&one, &other], array, cell)));
+            }
             continue;
         }
         count(if has_out(&one) { "equal, out arrays" } else { "equal, no out array" });
@@ -322,18 +354,77 @@ fn unwritten_elements_in_four_thousand_pairs() {
     assert_counts(
         &counts,
         &[
-            ("Out, unwritten on neither", 180),
-            ("Out, unwritten on the left", 90),
-            ("Out, unwritten on the right", 120),
+            ("Out, unwritten on neither", 450),
+            ("Out, unwritten on the left", 80),
+            ("Out, unwritten on the right", 200),
             ("Out, unwritten on both", 140),
-            ("differs, itself", 40),
-            ("Inout, unwritten on neither", 180),
-            ("Inout, unwritten on the left", 10),
-            ("Inout, unwritten on the right", 30),
+            ("differs, itself", 30),
+            ("all: Inout, unwritten on neither", 180),
+            ("all: Inout, unwritten on the left", 10),
+            ("all: Inout, unwritten on the right", 30),
             ("equal, an inout array that neither writes", 250),
         ],
     );
-    assert!(counts["equal, out arrays"] > counts["equal, no out array"], "{counts:?}");
+    assert!(counts["equal, out arrays"] > 9 * counts["equal, no out array"], "{counts:?}");
+}
+
+/// How the plain reply and the one under all bits differ, where neither refuses.
+fn roles_of(list: &List, plain: Reply, all: Reply) -> String {
+    let has = |role| list.tables.arrays().iter().any(|array| array.role == role);
+    match (plain, all) {
+        (Reply::Equal { count: 0 }, _) if !has(Role::Out) => {
+            let inout = if has(Role::Inout) { "inout alone" } else { "neither out nor inout" };
+            format!("{inout}, all {}", kind(all))
+        }
+        (Reply::Equal { .. }, all) => format!("out, equal, all {}", kind(all)),
+        (_, Reply::Differs { .. }) if plain == all => "out, differs, all the same".to_string(),
+        (_, all) => format!("out, differs, all {} elsewhere", kind(all)),
+    }
+}
+
+#[test]
+fn out_and_inout_arrays_in_random_pairs() {
+    let mut work = Work::default();
+    for seed in 1..=4 {
+        let mut counts = BTreeMap::new();
+        let mut count = |kind: String| *counts.entry(kind).or_insert(0usize) += 1;
+        for input in Pairs::new(seed).take(4_000) {
+            let plain = work.input(&input);
+            let all = work.input_masked(&input, ALL);
+            if let Reply::Refused { .. } = plain {
+                assert_eq!(all, plain);
+                continue;
+            }
+            let (left, _) = separate::input::split(&input).unwrap();
+            let words = work.unroll(left).unwrap().to_vec();
+            let list = decode(&words).unwrap();
+            count(format!("plain {}", kind(plain)));
+            count(roles_of(&list, plain, all));
+            let roles = [Role::In, Role::Out, Role::Inout, Role::Local];
+            let arrays = list.tables.arrays();
+            if roles.iter().all(|&role| arrays.iter().any(|array| array.role == role)) {
+                count(format!("all four roles, {}", kind(plain)));
+            }
+        }
+        for kind in ["equal", "differs"] {
+            let of_kind = counts[&format!("plain {kind}")];
+            assert!((1_080..=1_320).contains(&of_kind), "{kind} in {counts:?}");
+        }
+        assert_counts(
+            &counts,
+            &[
+                ("inout alone, all equal", 25),
+                ("inout alone, all differs", 35),
+                ("neither out nor inout, all equal", 1),
+                ("out, equal, all equal", 850),
+                ("out, equal, all differs", 50),
+                ("out, differs, all the same", 900),
+                ("out, differs, all differs elsewhere", 100),
+                ("all four roles, equal", 90),
+                ("all four roles, differs", 90),
+            ],
+        );
+    }
 }
 
 /// Are all out elements written, or are those that are not left out?
@@ -510,7 +601,7 @@ fn near_marks_in_eight_thousand_list_pairs() {
 fn marks_in_a_thousand_explanations() {
     let mut counts = BTreeMap::new();
     for record in Explanations::new(1).take(1_000) {
-        let (_, _, left, right) = lent(&record);
+        let Lent { left, right, .. } = lent(&record);
         for program in [left, right] {
             let [_, _, _, version, 0, 1, operator, 3 | 4, 0, 1, 8, 0, 1 | 2, 1, 40, 0, ..] =
                 program

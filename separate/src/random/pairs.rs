@@ -3,8 +3,8 @@
 use super::changes::{change, leave_out};
 use super::programs::program;
 use super::refusals::refused;
-use super::rewrites::{renumber_arrays, swap_arguments, IF_INDEPENDENT, SAFE};
-use super::unwritten::{complete, unwritten_by, with_inout};
+use super::rewrites::{insert_array, swap_arguments, IF_INDEPENDENT, SAFE};
+use super::unwritten::{complete, unwritten_by, with_inout, with_out};
 use super::{templates, Random, ATTEMPTS};
 use crate::compare::ALL;
 use crate::limits::PROGRAM_BYTES;
@@ -14,8 +14,9 @@ use crate::tree::{each_node, encode, Declaration, Expression, Form, Source};
 use crate::work::Work;
 
 /// What a pair is made to be, with how many of a thousand.
-const KINDS: [(Kind, usize); 7] = [
-    (Kind::Equal, 290),
+const KINDS: [(Kind, usize); 8] = [
+    (Kind::Equal, 255),
+    (Kind::DiffersInInout, 35),
     (Kind::Differs, 290),
     (Kind::Damaged, 90),
     (Kind::BadFrame, 14),
@@ -27,7 +28,11 @@ const KINDS: [(Kind, usize); 7] = [
 
 #[derive(Clone, Copy)]
 enum Kind {
+    /// In all out and inout arrays.
     Equal,
+    /// Equal in the out arrays, if there are any, but not in the inout arrays.
+    DiffersInInout,
+    /// In an out array.
     Differs,
     /// One to four bytes changed: anything may come of it.
     Damaged,
@@ -74,6 +79,7 @@ impl Pairs {
     fn pair(&mut self, kind: Kind) -> Vec<u8> {
         match kind {
             Kind::Equal => self.equal(),
+            Kind::DiffersInInout => self.differs_in_inout(),
             Kind::Differs => self.differs(),
             Kind::Damaged => self.damaged(),
             Kind::BadFrame => self.bad_frame(),
@@ -103,23 +109,37 @@ impl Pairs {
         }
     }
 
-    /// One that leaves no out element unwritten.
+    /// One that leaves no out element unwritten, and mostly has some.
     fn whole_base(&mut self) -> Source {
         let base = self.base();
-        complete(&base, &mut self.random, &mut self.work)
+        let whole = complete(&base, &mut self.random, &mut self.work);
+        self.perhaps_with_out(whole)
     }
 
+    fn perhaps_with_out(&mut self, base: Source) -> Source {
+        if self.random.chance(90) {
+            with_out(&base, &mut self.random, &mut self.work)
+        } else {
+            base
+        }
+    }
+
+    /// The reply of the plain comparison.
     fn reply(&mut self, left: &Source, right: &Source) -> Reply {
+        self.work.programs(&bytes_of(left), &bytes_of(right))
+    }
+
+    fn reply_in_all(&mut self, left: &Source, right: &Source) -> Reply {
         self.work.programs_masked(&bytes_of(left), &bytes_of(right), ALL)
     }
 
     fn are_equal(&mut self, left: &Source, right: &Source) -> bool {
-        matches!(self.reply(left, right), Reply::Equal { .. })
+        matches!(self.reply_in_all(left, right), Reply::Equal { .. })
     }
 
     /// Does the rewrite change no value, and write no other elements?
     fn keeps(&mut self, base: &Source, rewrite: &Source) -> bool {
-        match self.reply(base, rewrite) {
+        match self.reply_in_all(base, rewrite) {
             Reply::Equal { .. } => true,
             Reply::Differs { .. } => self.are_equal(&with_inout(base), &with_inout(rewrite)),
             Reply::Refused { .. } => false,
@@ -189,10 +209,35 @@ impl Pairs {
     }
 
     fn with_a_change(&mut self) -> Option<(Source, Source)> {
-        let base = if self.random.chance(80) { self.whole_base() } else { self.base() };
+        let base = if self.random.chance(80) {
+            self.whole_base()
+        } else {
+            let base = self.base();
+            self.perhaps_with_out(base)
+        };
         let left = self.perhaps_rewritten(&base, 40);
-        let right = self.changed(&base, &left)?;
+        let differs = |pairs: &mut Pairs, right: &Source| {
+            matches!(pairs.reply(&left, right), Reply::Differs { .. })
+        };
+        let right = self.changed(&base, &differs)?;
         Some((left, right))
+    }
+
+    /// One program with a change that no out array shows. Some have none.
+    fn differs_in_inout(&mut self) -> Vec<u8> {
+        let has_out = self.random.chance(70);
+        for _ in 0..ATTEMPTS {
+            let base = if has_out { self.whole_base() } else { with_inout(&self.base()) };
+            let left = self.perhaps_rewritten(&base, 40);
+            let differs = |pairs: &mut Pairs, right: &Source| {
+                matches!(pairs.reply(&left, right), Reply::Equal { .. })
+                    && !pairs.are_equal(&left, right)
+            };
+            if let Some(right) = self.changed(&base, &differs) {
+                return frame(&bytes_of(&left), &bytes_of(&right));
+            }
+        }
+        self.equal()
     }
 
     /// Two of a program, one of which lacks an update that writes an out
@@ -217,9 +262,13 @@ impl Pairs {
         Some((self.perhaps_rewritten(&base, 40), self.perhaps_rewritten(&base, 70)))
     }
 
-    /// One change, or a rewrite that breaks a dependence, that makes a
-    /// difference to the left; perhaps hidden among rewrites that make none.
-    fn changed(&mut self, base: &Source, left: &Source) -> Option<Source> {
+    /// One change, or a rewrite that breaks a dependence, that makes the wanted
+    /// difference; perhaps hidden among rewrites that make none.
+    fn changed(
+        &mut self,
+        base: &Source,
+        wanted: &dyn Fn(&mut Pairs, &Source) -> bool,
+    ) -> Option<Source> {
         for _ in 0..10 {
             let changed = if self.random.chance(15) {
                 self.random.pick(&IF_INDEPENDENT)(base, &mut self.random)
@@ -227,7 +276,7 @@ impl Pairs {
                 change(base, &mut self.random)
             };
             let Some(right) = changed else { continue };
-            if matches!(self.reply(left, &right), Reply::Differs { .. }) {
+            if wanted(self, &right) {
                 let hidden = self.random.chance(30);
                 return Some(if hidden { self.rewritten(&right) } else { right });
             }
@@ -371,8 +420,7 @@ fn unlike_arrays(source: &mut Source, random: &mut Random) {
         2 => {
             // One shared array more, in front of the locals.
             let role = *random.pick(&[Role::In, Role::Out, Role::Inout]);
-            source.arrays.insert(shared, Declaration { role, extents: vec![1] });
-            renumber_arrays(source, &|array| array + usize::from(array >= shared));
+            insert_array(source, shared, Declaration { role, extents: vec![1] });
         }
         _ => one_dimension_more(source, number),
     }

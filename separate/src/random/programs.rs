@@ -154,12 +154,31 @@ impl<'a> Maker<'a> {
         let extents = self.arrays[array].extents.clone();
         let ranges = extents.iter().map(|&extent| (0, i32::from(extent) - 1)).collect();
         let scope = Scope { ranges, rounds: 1, nesting: extents.len() };
-        let loops = extents.len();
-        let subscripts = (0..loops).map(|position| Form::index(position, loops)).collect();
         // What is fresh has its subscripts outside of these loops.
         let fresh = std::mem::take(&mut self.fresh);
         let value = self.expression(&scope, levels);
         self.fresh = fresh;
+        self.whole_of(array, value)
+    }
+
+    /// Loops that write every cell of the array with what another of the same
+    /// extents holds there.
+    pub fn copy(&mut self, array: usize, from: usize) -> Item {
+        let subscripts = self.own_indices(array);
+        self.whole_of(array, Expression::Read { array: from, subscripts })
+    }
+
+    /// A loop for each dimension: the subscripts of one cell.
+    fn own_indices(&self, array: usize) -> Vec<Form> {
+        let loops = self.arrays[array].extents.len();
+        (0..loops).map(|position| Form::index(position, loops)).collect()
+    }
+
+    /// Loops that write this value to every cell of the array.
+    fn whole_of(&mut self, array: usize, value: Expression) -> Item {
+        let extents = self.arrays[array].extents.clone();
+        let loops = extents.len();
+        let subscripts = self.own_indices(array);
         let mut item = Item::Statement(Statement { target: array, subscripts, value });
         for position in (0..loops).rev() {
             let last = i32::from(extents[position]) - 1;

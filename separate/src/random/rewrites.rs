@@ -394,13 +394,19 @@ fn renumber_locals(source: &Source, random: &mut Random) -> Option<Source> {
     Some(source)
 }
 
-pub fn renumber_arrays(source: &mut Source, number: &dyn Fn(usize) -> usize) {
+fn renumber_arrays(source: &mut Source, number: &dyn Fn(usize) -> usize) {
     each_statement(&mut source.items, &mut |statement| statement.target = number(statement.target));
     each_node(&mut source.items, &mut |node| {
         if let Expression::Read { array, .. } = node {
             *array = number(*array);
         }
     });
+}
+
+/// One array more: those from its number on move up by one.
+pub fn insert_array(source: &mut Source, at: usize, declared: Declaration) {
+    source.arrays.insert(at, declared);
+    renumber_arrays(source, &|array| array + usize::from(array >= at));
 }
 
 /// Arguments of marked operators change places, at any depth.

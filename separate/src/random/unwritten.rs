@@ -1,11 +1,13 @@
 //! Out elements that nothing writes. Each of them is a difference, so programs
-//! that are to be equal are completed.
+//! that are to be equal are completed. Programs without an out array get one, or
+//! the plain comparison would have nothing to compare.
 
 use super::programs::{Maker, Scope};
+use super::rewrites::insert_array;
 use super::Random;
 use crate::list::{decode, List};
 use crate::tables::Role;
-use crate::tree::{encode, Form, Item, Loop, Source, Statement};
+use crate::tree::{encode, Declaration, Form, Item, Loop, Source, Statement};
 use crate::work::Work;
 
 /// The out elements that no update writes, by array and cell.
@@ -51,12 +53,46 @@ pub fn complete(source: &Source, random: &mut Random, work: &mut Work) -> Source
             _ => completed.arrays[array].role = Role::Inout,
         }
     }
-    // There may be too many updates, nodes or bytes now.
-    let accepted = completed.fits() && work.refusal(&encode(&completed).bytes).is_none();
-    if accepted {
+    if is_accepted(&completed, work) {
         completed
     } else {
         with_inout(source)
+    }
+}
+
+/// What has grown may have too many updates, nodes or bytes.
+fn is_accepted(source: &Source, work: &mut Work) -> bool {
+    source.fits() && work.refusal(&encode(source).bytes).is_none()
+}
+
+fn has(source: &Source, role: Role) -> bool {
+    source.arrays.iter().any(|array| array.role == role)
+}
+
+/// The program with an out array: if it has none a new one, which takes what an
+/// inout array holds at the end. As it is where a limit forbids that.
+pub fn with_out(source: &Source, random: &mut Random, work: &mut Work) -> Source {
+    if has(source, Role::Out) {
+        return source.clone();
+    }
+    let inout = |&array: &usize| source.arrays[array].role == Role::Inout;
+    let inouts: Vec<_> = (0..source.arrays.len()).filter(inout).collect();
+    let copied = (!inouts.is_empty()).then(|| *random.pick(&inouts));
+    let extents = copied.map_or(vec![3], |array| source.arrays[array].extents.clone());
+    let shared = source.arrays.iter().filter(|array| array.role != Role::Local).count();
+    let at = random.below(shared + 1);
+    let mut more = source.clone();
+    insert_array(&mut more, at, Declaration { role: Role::Out, extents });
+    let mut maker = Maker::over(&more, random);
+    let last = match copied {
+        Some(array) => maker.copy(at, array + usize::from(array >= at)),
+        None => maker.whole(at, 1),
+    };
+    more.items.push(last);
+    if is_accepted(&more, work) {
+        more
+    } else {
+        source.clone()
     }
 }
 
