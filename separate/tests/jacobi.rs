@@ -2,7 +2,7 @@
 //! arrays are inout, so all bits of the mask are set.
 
 mod common;
-use common::{asm, line_all_of_texts};
+use common::{asm, line_all_of_texts, line_of_texts};
 use separate::limits::LIST_WORDS;
 use separate::list::{decode, Record};
 use separate::read::read_program;
@@ -74,6 +74,14 @@ fn both_have_56_updates_and_224_nodes() {
 fn the_tiled_variant_is_equal() {
     assert_eq!(line_all_of_texts(ORIGINAL, TILED), "equal 32");
     assert_eq!(line_all_of_texts(TILED, ORIGINAL), "equal 32");
+}
+
+/// Neither array is out.
+#[test]
+fn plainly_nothing_is_compared() {
+    for other in [TILED.to_string(), TILED.replace("A[0], A[1]", "A[1], A[0]")] {
+        assert_eq!(line_of_texts(ORIGINAL, &other), "equal 0");
+    }
 }
 
 /// Figure 3 lists the updates of both columns.

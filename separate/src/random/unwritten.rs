@@ -184,6 +184,44 @@ mod tests {
         assert_eq!(source.items.len(), 1 + 8);
     }
 
+    /// Before the array that it takes its values from or behind it, and never
+    /// behind a local.
+    #[test]
+    fn a_new_out_array_holds_what_an_inout_array_does() {
+        let [inout, out] = ["array A inout [2, 3]", "array B out [2, 3]"];
+        let items = "array T local [1] T[0] = 1 A[1, 2] = T[0]";
+        let copy = "for i = 0 to 1 { for j = 0 to 2 { B[i, j] = A[i, j] } }";
+        let [before, behind] = [[out, inout], [inout, out]]
+            .map(|arrays| parse(&format!("{} {items} {copy}", arrays.join(" "))).unwrap());
+        let source = parse(&format!("{inout} {items}")).unwrap();
+        let (mut random, mut work, mut counts) = (Random::new(1), Work::default(), [0; 2]);
+        for _ in 0..20 {
+            let more = encode(&with_out(&source, &mut random, &mut work)).bytes;
+            for (count, wanted) in counts.iter_mut().zip([&before, &behind]) {
+                let reply = work.programs_masked(&more, &encode(wanted).bytes, ALL);
+                *count += usize::from(reply == Reply::Equal { count: 12 });
+            }
+        }
+        assert!(counts[0] > 3 && counts[1] > 3 && counts[0] + counts[1] == 20, "{counts:?}");
+    }
+
+    #[test]
+    fn a_new_out_array_where_it_is_missing_and_fits() {
+        let with_out = |text: &str| {
+            let source = parse(text).unwrap();
+            (source.clone(), with_out(&source, &mut Random::new(2), &mut Work::default()))
+        };
+        for text in ["array A inout [2] array B out [1]", "array A inout [1024, 2]"] {
+            let (source, same) = with_out(text);
+            assert_eq!(same, source);
+        }
+        // No inout array either: it is filled.
+        let (_, filled) = with_out("array A in [2] array T local [1]");
+        assert_eq!(filled.arrays.len(), 3);
+        assert!(has(&filled, Role::Out));
+        assert!(unwritten_by(&filled, &mut Work::default()).is_empty());
+    }
+
     #[test]
     fn two_in_three_out_arrays_are_written_whole() {
         let (mut random, mut work) = (Random::new(4), Work::default());
