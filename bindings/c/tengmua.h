@@ -53,6 +53,18 @@ tengmua_reply tengmua_compare_programs(const uint8_t *left, size_t left_length,
                                        uint32_t *cells, size_t cells_length,
                                        uint32_t *terms, size_t terms_length);
 
+/* The plain comparison: two programs in their out arrays. Inout arrays are left out: they may be scratch memory, and what is left there
+ * need not be alike. So EQUAL with 0 elements, as of programs without an out array, says that nothing was compared;
+ * tengmua_compare_programs with TENGMUA_ALL compares inout arrays too. The reply is the one that it gives under the mask with the
+ * bits of the out arrays. A difference is explained by tengmua_explain with the mask 1 << array, which names the same element. Work
+ * memory as above. */
+tengmua_reply tengmua_compare_plain(const uint8_t *left, size_t left_length,
+                                    const uint8_t *right, size_t right_length,
+                                    uint32_t *left_list, size_t left_list_length,
+                                    uint32_t *right_list, size_t right_list_length,
+                                    uint32_t *cells, size_t cells_length,
+                                    uint32_t *terms, size_t terms_length);
+
 /* Compares two lists (docs/LAYOUT.md), which may hold anything and are only read. Work memory as above. */
 tengmua_reply tengmua_compare_lists(const uint32_t *left, size_t left_length,
                                     const uint32_t *right, size_t right_length,

@@ -1,6 +1,6 @@
 //! Safe calls of the proved loop pair checker (`crates/cabi`).
 //!
-//! The five functions over lent slices answer every input; what they reply and leave in the slices is proved. [`Work`] owns
+//! The six functions over lent slices answer every input; what they reply and leave in the slices is proved. [`Work`] owns
 //! the memory that a compare needs.
 //!
 //! ```
@@ -8,26 +8,44 @@
 //! let forwards = b"ALP\x01\0\0\x02\0\x01\x02\0\x01\x01\x02\0\x02\0\0\x01\0\x01\0\x01\x01\0\0\x01\x10\0\0\0\x01\0\0";
 //! let mut backwards = *forwards;
 //! backwards[16..22].copy_from_slice(&[1, 0, 0, 0, 0xFF, 0xFF]);
-//! let reply = tengmua::Work::default().programs(forwards, &backwards, tengmua::ALL);
+//! let reply = tengmua::Work::default().plain(forwards, &backwards);
 //! assert_eq!(reply.to_string(), "equal 2");
 //! ```
 //!
-//! Where two programs differ, [`explain`] gives the part of one's own bytes that wrote the element last:
+//! The plain comparison is one of out arrays. A mask chooses out and inout arrays; [`ALL`] chooses all of them:
 //!
 //! ```
-//! use tengmua::{Chosen, Explanation, Work, ALL};
+//! use tengmua::{Work, ALL};
+//! # let forwards = b"ALP\x01\0\0\x02\0\x01\x02\0\x01\x01\x02\0\x02\0\0\x01\0\x01\0\x01\x01\0\0\x01\x10\0\0\0\x01\0\0";
+//! // The array that is copied to becomes inout on both sides, and one side copies an element less.
+//! let mut whole = *forwards;
+//! whole[11] = 2;
+//! let mut shorter = whole;
+//! shorter[18] = 0;
+//! let mut work = Work::default();
+//! // There is no out array: nothing was compared.
+//! assert_eq!(work.plain(&whole, &shorter).to_string(), "equal 0");
+//! assert_eq!(work.programs(&whole, &shorter, ALL).to_string(), "differs 1 1");
+//! ```
+//!
+//! Where two programs differ, [`explain`] gives the part of one's own bytes that wrote the element last. With the mask of the array
+//! alone it names the same element, whichever comparison found it:
+//!
+//! ```
+//! use tengmua::{Chosen, Explanation, Reply, Work};
 //! # let forwards = b"ALP\x01\0\0\x02\0\x01\x02\0\x01\x01\x02\0\x02\0\0\x01\0\x01\0\x01\x01\0\0\x01\x10\0\0\0\x01\0\0";
 //! // One round less: the second element is not copied.
 //! let mut shorter = *forwards;
 //! shorter[18] = 0;
 //! let mut work = Work::default();
-//! assert_eq!(work.programs(forwards, &shorter, ALL).to_string(), "differs 1 1");
-//! let Explanation::Written(written) = work.explain(forwards, &shorter, ALL, Chosen::Left) else { panic!() };
+//! let Reply::Differs(array, 1) = work.plain(forwards, &shorter) else { panic!() };
+//! let mask = 1 << array;
+//! let Explanation::Written(written) = work.explain(forwards, &shorter, mask, Chosen::Left) else { panic!() };
 //! assert_eq!((written.bytes, written.indices()), (&forwards[22..32], &[1][..]));
-//! let right = work.explain(forwards, &shorter, ALL, Chosen::Right);
-//! assert_eq!(right, Explanation::Starting { array: 1, cell: 1 });
+//! let right = work.explain(forwards, &shorter, mask, Chosen::Right);
+//! assert_eq!(right, Explanation::Starting { array, cell: 1 });
 //! // Each side has out contents of its own, so what neither writes differs too.
-//! assert_eq!(work.programs(&shorter, &shorter, ALL).to_string(), "differs 1 1");
+//! assert_eq!(work.plain(&shorter, &shorter).to_string(), "differs 1 1");
 //! ```
 
 mod raw;
@@ -169,6 +187,20 @@ pub fn compare_programs(
     raw::compare_programs(left, right, mask, [left_list, right_list, cells, terms]).reply()
 }
 
+/// The plain comparison: two programs in their out arrays. Inout arrays are left out: they may be scratch memory, and what is left
+/// there need not be alike. So `Equal(0)` says that nothing was compared; [`compare_programs`] with [`ALL`] compares inout arrays too.
+/// A difference is explained by [`explain`] with the mask `1 << array`, which names the same element. Work memory as above.
+pub fn compare_plain(
+    left: &[u8],
+    right: &[u8],
+    left_list: &mut [u32],
+    right_list: &mut [u32],
+    cells: &mut [u32],
+    terms: &mut [u32],
+) -> Reply {
+    raw::compare_plain(left, right, [left_list, right_list, cells, terms]).reply()
+}
+
 /// Compares two lists, which may hold anything and are only read. `cells` and `terms` are work memory as above.
 pub fn compare_lists(
     left: &[u32],
@@ -232,6 +264,13 @@ impl Default for Work {
 }
 
 impl Work {
+    /// In the out arrays: [`compare_plain`].
+    pub fn plain(&mut self, left: &[u8], right: &[u8]) -> Reply {
+        let Work { left_list, right_list, cells, terms } = self;
+        compare_plain(left, right, left_list, right_list, cells, terms)
+    }
+
+    /// In the out and inout arrays whose bit of `mask` is 1: [`compare_programs`].
     pub fn programs(&mut self, left: &[u8], right: &[u8], mask: u16) -> Reply {
         let Work { left_list, right_list, cells, terms } = self;
         compare_programs(left, right, mask, left_list, right_list, cells, terms)

@@ -44,6 +44,21 @@ extern "C" {
         terms_length: usize,
     ) -> Numbers;
 
+    fn tengmua_compare_plain(
+        left: *const u8,
+        left_length: usize,
+        right: *const u8,
+        right_length: usize,
+        left_list: *mut u32,
+        left_list_length: usize,
+        right_list: *mut u32,
+        right_list_length: usize,
+        cells: *mut u32,
+        cells_length: usize,
+        terms: *mut u32,
+        terms_length: usize,
+    ) -> Numbers;
+
     fn tengmua_compare_lists(
         left: *const u32,
         left_length: usize,
@@ -158,6 +173,27 @@ pub fn compare_programs(left: &[u8], right: &[u8], mask: u16, work: [&mut [u32];
             right.as_ptr(),
             right.len(),
             mask,
+            left_list.as_mut_ptr(),
+            left_list.len(),
+            right_list.as_mut_ptr(),
+            right_list.len(),
+            cells.as_mut_ptr(),
+            cells.len(),
+            terms.as_mut_ptr(),
+            terms.len(),
+        )
+    }
+}
+
+pub fn compare_plain(left: &[u8], right: &[u8], work: [&mut [u32]; 4]) -> Numbers {
+    let [left_list, right_list, cells, terms] = work;
+    // SAFETY: as above.
+    unsafe {
+        tengmua_compare_plain(
+            left.as_ptr(),
+            left.len(),
+            right.as_ptr(),
+            right.len(),
             left_list.as_mut_ptr(),
             left_list.len(),
             right_list.as_mut_ptr(),

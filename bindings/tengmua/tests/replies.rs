@@ -1,8 +1,8 @@
 //! Known pairs through the wrapper, and memory of any length.
 
 use tengmua::{
-    check_list, compare_lists, compare_programs, explain, unroll, Chosen, Explanation, Refusal,
-    Reply, Side, Work, ALL, CELL_WORDS, LIST_WORDS, TERM_WORDS,
+    check_list, compare_lists, compare_plain, compare_programs, explain, unroll, Chosen,
+    Explanation, Refusal, Reply, Side, Work, ALL, CELL_WORDS, LIST_WORDS, TERM_WORDS,
 };
 
 const SHORT: Refusal = Refusal { side: Side::Both, question: 25, place: 0 };
@@ -72,6 +72,104 @@ fn the_mask_chooses_arrays() {
     assert_eq!(reply(1), Reply::Differs(0, 2));
     assert!(matches!(reply(2), Reply::Differs(1, _)));
     assert_eq!(reply(0), Reply::Equal(0));
+}
+
+const IN: u8 = 0;
+const OUT: u8 = 1;
+const INOUT: u8 = 2;
+const LOCAL: u8 = 3;
+
+/// A statement of `program`: code and target, a form, a constant.
+const STATEMENT: usize = 2 + 2 + 5;
+
+/// Arrays of one dimension, each a role and an extent; and statements that write a constant: array, cell and name.
+fn program(arrays: &[[u8; 2]], writes: &[[u8; 3]]) -> Vec<u8> {
+    let mut bytes = b"ALP\x01\0\0".to_vec();
+    bytes.push(arrays.len() as u8);
+    bytes.extend(arrays.iter().flat_map(|&[role, extent]| [role, 1, extent, 0]));
+    bytes.extend(
+        writes.iter().flat_map(|&[array, cell, name]| [1, array, cell, 0, 19, name, 0, 0, 0]),
+    );
+    bytes.push(0);
+    bytes
+}
+
+/// Every role; the out arrays have inout arrays before them and between them.
+const MIXED: [[u8; 2]; 6] = [[INOUT, 3], [OUT, 1], [IN, 4], [INOUT, 5], [OUT, 2], [LOCAL, 6]];
+
+/// All elements of the out arrays.
+const WRITES: [[u8; 3]; 3] = [[1, 0, 7], [4, 0, 7], [4, 1, 7]];
+
+fn mixed(more: &[[u8; 3]]) -> Vec<u8> {
+    program(&MIXED, &[&WRITES, more].concat())
+}
+
+/// What is left in inout and local arrays does not count; the number is that of the elements of all out arrays.
+#[test]
+fn plain_compares_out_arrays_alone() {
+    let mut work = Work::default();
+    let (left, right) = (mixed(&[]), mixed(&[[0, 2, 7], [3, 1, 7], [5, 0, 7]]));
+    assert_eq!(work.plain(&left, &right), Reply::Equal(1 + 2));
+    assert_eq!(work.programs(&left, &right, ALL), Reply::Differs(0, 2));
+    assert_eq!(work.programs(&left, &right, !1), Reply::Differs(3, 1));
+    assert_eq!(work.plain(&left, &left), Reply::Equal(1 + 2));
+    assert_eq!(work.programs(&left, &left, ALL), Reply::Equal(3 + 1 + 5 + 2));
+}
+
+/// Nothing is compared, whatever is written.
+#[test]
+fn plain_without_out_arrays_is_equal() {
+    let mut work = Work::default();
+    let arrays = [[INOUT, 3], [IN, 4]];
+    let (left, right) = (program(&arrays, &[[0, 1, 7]]), program(&arrays, &[]));
+    assert_eq!(work.plain(&left, &right), Reply::Equal(0));
+    assert_eq!(work.programs(&left, &right, ALL), Reply::Differs(0, 1));
+    assert_eq!(work.plain(example!("jacobi"), example!("jacobi-wrong-skew")), Reply::Equal(0));
+}
+
+/// The first element of an out array, though inout elements before it differ. Under the bit of its array alone both sides explain it.
+#[test]
+fn a_plain_difference_is_explained_under_its_array() {
+    let mut work = Work::default();
+    let (left, right) = (mixed(&[[0, 2, 7]]), mixed(&[[4, 1, 8], [3, 0, 7]]));
+    assert_eq!(work.plain(&left, &right), Reply::Differs(4, 1));
+    assert_eq!(work.programs(&left, &right, ALL), Reply::Differs(0, 2));
+    let statements = left.len() - 1 - 4 * STATEMENT;
+    let line = |from: usize| format!("written 4 1 {from} {}", from + STATEMENT);
+    let lines = BOTH.map(|chosen| work.explain(&left, &right, 1 << 4, chosen).to_string());
+    assert_eq!(lines, [line(statements + 2 * STATEMENT), line(statements + 3 * STATEMENT)]);
+}
+
+/// An out element that either side leaves unwritten differs.
+#[test]
+fn plain_sees_unwritten_output() {
+    let mut work = Work::default();
+    let (whole, part) = (mixed(&[]), program(&MIXED, &WRITES[..2]));
+    for (left, right) in [(&whole, &part), (&part, &whole), (&part, &part)] {
+        assert_eq!(work.plain(left, right), Reply::Differs(4, 1));
+    }
+}
+
+/// A refusal does not depend on what is compared.
+#[test]
+fn plain_refuses_what_a_mask_refuses() {
+    let mut work = Work::default();
+    let mut line = |left: &[u8], right: &[u8]| {
+        let reply = work.plain(left, right);
+        assert_eq!(reply, work.programs(left, right, ALL));
+        reply.to_string()
+    };
+    let copy = example!("copy");
+    assert_eq!(line(example!("outside"), copy), "refused left 16 22");
+    assert_eq!(line(copy, example!("outside")), "refused right 16 22");
+    assert_eq!(line(&[], &[]), "refused left 3 0");
+    assert_eq!(line(copy, &[]), "refused right 3 0");
+    assert_eq!(line(&[0; 16_385], copy), "refused left 2 0");
+    assert_eq!(line(example!("blur-marked"), example!("blur")), "refused both 23 0");
+    // Inout arrays are alike too, though they are not compared.
+    let [one, other] = [[[INOUT, 3], [OUT, 1]], [[INOUT, 2], [OUT, 1]]];
+    let writes = [[1, 0, 7]];
+    assert_eq!(line(&program(&one, &writes), &program(&other, &writes)), "refused both 22 0");
 }
 
 const BOTH: [Chosen; 2] = [Chosen::Left, Chosen::Right];
@@ -158,6 +256,7 @@ fn short_memory_is_refused_and_untouched() {
         let [a, b, c, d] = &mut memory;
         let reply = compare_programs(&[], &[], ALL, a, b, c, d);
         assert_eq!(reply, Reply::Refused(SHORT));
+        assert_eq!(compare_plain(&[], &[], a, b, c, d), Reply::Refused(SHORT));
         assert_eq!(compare_lists(a, b, ALL, c, d), Reply::Refused(SHORT));
         let explanation = explain(&[], &[], ALL, Chosen::Left, a, b, c, d);
         assert_eq!(explanation, Explanation::Refused(SHORT));
@@ -177,6 +276,7 @@ fn little_stack_is_enough() {
     let run = move || {
         let mut work = Work::default();
         let reply = work.programs(&deep, &deep, ALL);
+        assert_eq!(work.plain(&deep, &deep), Reply::Equal(1));
         let mut list = vec![0; LIST_WORDS];
         assert_eq!(unroll(&deep, &mut list), Ok(1));
         assert_eq!(check_list(&list), Ok(()));
