@@ -10,6 +10,7 @@ use crate::memory::{is_zero, lengths, Garbage, ENOUGH};
 /// The entries of the boundary. What a program or list alone is answered is a `Reply` too, as in its four numbers.
 pub trait Checker {
     fn programs(&self, left: &[u8], right: &[u8], mask: u16, work: [&mut [u32]; 4]) -> Reply;
+    fn plain(&self, left: &[u8], right: &[u8], work: [&mut [u32]; 4]) -> Reply;
     fn lists(&self, left: &[u32], right: &[u32], mask: u16, work: [&mut [u32]; 2]) -> Reply;
     fn unroll(&self, program: &[u8], list: &mut [u32]) -> Reply;
     fn check(&self, list: &[u32]) -> Reply;
@@ -37,6 +38,11 @@ impl Checker for Ours {
     fn programs(&self, left: &[u8], right: &[u8], mask: u16, work: [&mut [u32]; 4]) -> Reply {
         let [left_list, right_list, cells, terms] = work;
         tengmua::compare_programs(left, right, mask, left_list, right_list, cells, terms)
+    }
+
+    fn plain(&self, left: &[u8], right: &[u8], work: [&mut [u32]; 4]) -> Reply {
+        let [left_list, right_list, cells, terms] = work;
+        tengmua::compare_plain(left, right, left_list, right_list, cells, terms)
     }
 
     fn lists(
@@ -124,6 +130,11 @@ impl Checker for Separate {
         ))
     }
 
+    fn plain(&self, left: &[u8], right: &[u8], work: [&mut [u32]; 4]) -> Reply {
+        let [left_list, right_list, cells, terms] = work;
+        reply(separate::compare_programs(left, right, left_list, right_list, cells, terms))
+    }
+
     fn lists(
         &self,
         left: &[u32],
@@ -188,27 +199,30 @@ impl<A: Checker, B: Checker> Beside<A, B> {
     }
 
     pub fn programs(&mut self, left: &[u8], right: &[u8], mask: u16) -> Result<Reply, Difference> {
-        let before = self.lent(ENOUGH);
-        let mut ours = before.clone();
-        let reply =
-            self.one.programs(left, right, mask, ours.each_mut().map(|slice| &mut slice[..]));
-        left_as_promised(is_short(reply), &before, &ours)?;
-        let mut theirs = before;
-        let other =
-            self.other.programs(left, right, mask, theirs.each_mut().map(|slice| &mut slice[..]));
-        same(reply, other)?;
-        same_words(&ours, &theirs)?;
-        Ok(reply)
+        self.compared(ENOUGH, |checker, work| checker.programs(left, right, mask, work))
+    }
+
+    pub fn plain(&mut self, left: &[u8], right: &[u8]) -> Result<Reply, Difference> {
+        self.compared(ENOUGH, |checker, work| checker.plain(left, right, work))
     }
 
     pub fn lists(&mut self, left: &[u32], right: &[u32], mask: u16) -> Result<Reply, Difference> {
-        let before = self.lent([ENOUGH[2], ENOUGH[3]]);
+        let enough = [ENOUGH[2], ENOUGH[3]];
+        self.compared(enough, |checker, work| checker.lists(left, right, mask, work))
+    }
+
+    /// One call of both, with the same garbage in work memory.
+    fn compared<const N: usize>(
+        &mut self,
+        enough: [usize; N],
+        call: impl Fn(&dyn Checker, [&mut [u32]; N]) -> Reply,
+    ) -> Result<Reply, Difference> {
+        let before = self.lent(enough);
         let mut ours = before.clone();
-        let reply = self.one.lists(left, right, mask, ours.each_mut().map(|slice| &mut slice[..]));
+        let reply = call(&self.one, ours.each_mut().map(|slice| &mut slice[..]));
         left_as_promised(is_short(reply), &before, &ours)?;
         let mut theirs = before;
-        let other =
-            self.other.lists(left, right, mask, theirs.each_mut().map(|slice| &mut slice[..]));
+        let other = call(&self.other, theirs.each_mut().map(|slice| &mut slice[..]));
         same(reply, other)?;
         same_words(&ours, &theirs)?;
         Ok(reply)

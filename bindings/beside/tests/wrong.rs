@@ -9,14 +9,20 @@ use tengmua::{Chosen, Explanation, Refusal, Reply, Side, Written, LIST_WORDS};
 enum Wrong {
     Nothing,
     ReplyToPrograms,
+    ReplyToPlain,
     ReplyToLists,
     ReplyToProgram,
     ReplyToList,
     /// A word of work memory is not zero afterwards.
     LeavesProgramWork,
+    LeavesPlainWork,
     LeavesListWork,
     /// Work memory is cleared under 25.
     ClearsUnderShort,
+    ClearsUnderShortPlain,
+    /// The plain comparison sees a difference in an inout array, or counts its elements.
+    SeesInout,
+    CountsInout,
     /// A word behind the list.
     LeavesWord,
     /// The explanation is the other program's.
@@ -74,6 +80,24 @@ impl Checker for Checked {
             other(reply)
         } else {
             reply
+        }
+    }
+
+    fn plain(&self, left: &[u8], right: &[u8], work: [&mut [u32]; 4]) -> Reply {
+        let [a, b, c, d] = work;
+        let reply = Separate.plain(left, right, [&mut *a, &mut *b, &mut *c, &mut *d]);
+        let all =
+            Separate.programs(left, right, tengmua::ALL, [&mut *a, &mut *b, &mut *c, &mut *d]);
+        if self.0 == Wrong::ClearsUnderShortPlain && is_short(reply) {
+            [a, b, c, d].into_iter().for_each(|slice| slice.fill(0));
+        } else if self.0 == Wrong::LeavesPlainWork {
+            spoil(a);
+        }
+        match (self.0, all) {
+            (Wrong::ReplyToPlain, _) => other(reply),
+            (Wrong::SeesInout, Reply::Differs(..)) => all,
+            (Wrong::CountsInout, Reply::Equal(_)) => all,
+            _ => reply,
         }
     }
 
@@ -167,15 +191,19 @@ fn list_of(program: &[u8]) -> Vec<u32> {
 /// Does some of many calls of every entry find a difference?
 fn found(wrong: Wrong) -> bool {
     let mut beside = Beside::new(Checked(wrong), Separate, 1);
-    let [program, longer, partial] = [
+    let [program, longer, partial, scratch, other_scratch] = [
         "array A in [2] array B out [1] B[0] = A[1]",
         "array A in [2] array B out [1] for i = 1 to 0 step -1 { B[0] = A[i] }",
         "array A in [2] array B out [2] B[0] = A[1]",
+        "array A inout [2] array B out [1] B[0] = A[1]",
+        "array A inout [2] array B out [1] B[0] = A[1] A[0] = const 1",
     ]
     .map(|text| assemble(text).expect("a program"));
     let [list, unwritten] = [&program, &partial].map(|program| list_of(program));
     (0..300).any(|_| {
         beside.programs(&program, &program, tengmua::ALL).is_err()
+            || beside.plain(&scratch, &scratch).is_err()
+            || beside.plain(&scratch, &other_scratch).is_err()
             || beside.lists(&list, &list, tengmua::ALL).is_err()
             || beside.lists(&unwritten, &unwritten, tengmua::ALL).is_err()
             || beside.unroll(&program).is_err()
@@ -190,12 +218,17 @@ fn each_wrong_checker_is_found_out() {
     assert!(!found(Nothing));
     for (number, wrong) in [
         ReplyToPrograms,
+        ReplyToPlain,
         ReplyToLists,
         ReplyToProgram,
         ReplyToList,
         LeavesProgramWork,
+        LeavesPlainWork,
         LeavesListWork,
         ClearsUnderShort,
+        ClearsUnderShortPlain,
+        SeesInout,
+        CountsInout,
         LeavesWord,
         ExplainsTheOther,
         SeesNoDifference,

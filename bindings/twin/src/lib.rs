@@ -108,6 +108,34 @@ pub unsafe extern "C" fn twin_compare_programs(
 }
 
 /// # Safety
+/// As `tengmua_compare_plain`.
+#[no_mangle]
+pub unsafe extern "C" fn twin_compare_plain(
+    left: *const u8,
+    left_length: usize,
+    right: *const u8,
+    right_length: usize,
+    left_list: *mut u32,
+    left_list_length: usize,
+    right_list: *mut u32,
+    right_list_length: usize,
+    cells: *mut u32,
+    cells_length: usize,
+    terms: *mut u32,
+    terms_length: usize,
+) -> Numbers {
+    let left = from_raw_parts(left, left_length);
+    let right = from_raw_parts(right, right_length);
+    let work = [
+        from_raw_parts_mut(left_list, left_list_length),
+        from_raw_parts_mut(right_list, right_list_length),
+        from_raw_parts_mut(cells, cells_length),
+        from_raw_parts_mut(terms, terms_length),
+    ];
+    numbers(Separate.plain(left, right, work))
+}
+
+/// # Safety
 /// As `tengmua_compare_lists`.
 #[no_mangle]
 pub unsafe extern "C" fn twin_compare_lists(

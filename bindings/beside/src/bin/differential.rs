@@ -1,7 +1,7 @@
 //! differential PAIRS LISTS SEED: so many random program pairs, as many that mostly differ, and so many list pairs through the
-//! static library and through the separately written checker; each program pair is explained for both sides. Work memory is
-//! full of garbage before each call. Then a fifth as many batches of pairs, each as it is printed. Ends with status 1 at the
-//! first difference, whose inputs it saves (difference.left, difference.right or difference.batch).
+//! static library and through the separately written checker; each program pair also through the plain comparison, and explained for
+//! both sides. Work memory is full of garbage before each call. Then a fifth as many batches of pairs, each as it is printed. Ends
+//! with status 1 at the first difference, whose inputs it saves (difference.left, difference.right or difference.batch).
 
 use std::collections::BTreeMap;
 use std::process::ExitCode;
@@ -24,11 +24,28 @@ fn kind_of(reply: Reply) -> Kind {
     }
 }
 
+/// An equal plain comparison in which nothing was compared is a kind of its own.
+fn kind_of_plain(reply: Reply) -> Kind {
+    match reply {
+        Reply::Equal(0) => (0, "nothing compared"),
+        reply => kind_of(reply),
+    }
+}
+
 fn kind_of_explanation(explanation: Explanation) -> Kind {
     match explanation {
         Explanation::Written(_) => (0, "written"),
         Explanation::Starting { .. } => (0, "starting content"),
         Explanation::Refused(Refusal { question, .. }) => (question, "refused"),
+    }
+}
+
+/// Is this element explained? If memory is short (25), none is.
+fn is_of(element: (usize, usize), explanation: Explanation) -> bool {
+    match explanation {
+        Explanation::Written(written) => (written.array, written.cell) == element,
+        Explanation::Starting { array, cell } => (array, cell) == element,
+        Explanation::Refused(Refusal { question, .. }) => question == 25,
     }
 }
 
@@ -70,10 +87,10 @@ impl Test {
         }
     }
 
-    /// Pairs of valid, changed and damaged programs; each program is also unrolled alone, and each pair explained.
+    /// Pairs of valid, changed and damaged programs; each program is also unrolled alone, and each pair compared plainly and explained.
     fn programs(&mut self, count: usize, seed: u64) -> Result<(), Difference> {
         let (mut compared, mut unrolled) = (Histogram::default(), Histogram::default());
-        let mut explained = Histogram::default();
+        let (mut plain, mut explained) = (Histogram::default(), Histogram::default());
         let pairs = Pairs::new(seed).map(|input| whole(&input));
         for (number, Pair { left, right }) in pairs.take(count).enumerate() {
             let mask = self.mask();
@@ -87,24 +104,66 @@ impl Test {
             compared.add(kind_of(reply));
             unrolled.add(kind_of(one));
             unrolled.add(kind_of(other));
+            self.plain(&left, &right, number, &mut plain)?;
             self.explain(&left, &right, mask, number, &mut explained)?;
         }
         println!("{count} program pairs, seed {seed}: the same replies and memory");
         compared.print("compare_programs", count)?;
+        plain.print("compare_plain", count)?;
         unrolled.print("unroll", 2 * count)?;
         explained.print("explain", 2 * count)
     }
 
     /// Pairs that have something to explain in most cases.
     fn explanations(&mut self, count: usize, seed: u64) -> Result<(), Difference> {
-        let mut explained = Histogram::default();
+        let (mut plain, mut explained) = (Histogram::default(), Histogram::default());
         let mut pairs = Explanations::new(seed);
         for number in 0..count {
             let Masked { left, right, mask } = pairs.pair();
+            self.plain(&left, &right, number, &mut plain)?;
             self.explain(&left, &right, mask, number, &mut explained)?;
         }
         println!("{count} program pairs that mostly differ, seed {seed}: the same explanations and memory");
+        plain.print("compare_plain", count)?;
         explained.print("explain", 2 * count)
+    }
+
+    /// The plain comparison. Both sides explain its difference under the bit of its array.
+    fn plain(
+        &mut self,
+        left: &[u8],
+        right: &[u8],
+        number: usize,
+        compared: &mut Histogram,
+    ) -> Result<(), Difference> {
+        let outcome = self.beside.plain(left, right).and_then(|reply| {
+            if let Reply::Differs(array, cell) = reply {
+                self.same_element(left, right, array, cell)?;
+            }
+            Ok(reply)
+        });
+        let reply = outcome.map_err(|difference| {
+            save_pair(left, right);
+            format!("pair {number}, plain: {difference}")
+        })?;
+        compared.add(kind_of_plain(reply));
+        Ok(())
+    }
+
+    fn same_element(
+        &mut self,
+        left: &[u8],
+        right: &[u8],
+        array: usize,
+        cell: usize,
+    ) -> Result<(), Difference> {
+        for chosen in [Chosen::Left, Chosen::Right] {
+            let explanation = self.beside.explain(left, right, 1 << array, chosen)?;
+            if !is_of((array, cell), explanation) {
+                return Err(format!("differs {array} {cell}, explained: {explanation}"));
+            }
+        }
+        Ok(())
     }
 
     /// For both sides.
