@@ -1,10 +1,11 @@
-//! The pairs that are timed: programs in the notation of `separate`, and those of the growth tables.
+//! The pairs that are timed: programs in the notation of `separate`, and those of the growth tables. They are compared with all bits of
+//! the mask, since some have inout arrays and no out array.
 
 use separate::limits::PROGRAM_BYTES;
 use separate::notation::assemble;
 use separate::random::Pairs;
 use separate::{Reply, Work};
-use tengmua::Chosen;
+use tengmua::{Chosen, ALL};
 
 /// Two programs that are compared.
 pub struct Pair {
@@ -91,11 +92,13 @@ fn rounds_and_update() -> String {
     format!("{ROUNDS_NESTED} A[0] = const 1")
 }
 
-/// Random pairs, of which those that differ are taken.
+/// Random pairs, of which those that differ in some out or inout array are taken.
 fn differing(count: usize, seed: u64) -> Workload {
     let mut work = Work::default();
-    let mut differ =
-        |pair: &Pair| matches!(work.programs(&pair.left, &pair.right), Reply::Differs { .. });
+    let mut differ = |pair: &Pair| {
+        let reply = work.programs_masked(&pair.left, &pair.right, ALL);
+        matches!(reply, Reply::Differs { .. })
+    };
     let pairs = Pairs::new(seed).filter_map(|input| split(&input)).filter(|pair| differ(pair));
     Workload { name: format!("{count} mixed pairs"), pairs: pairs.take(count).collect() }
 }

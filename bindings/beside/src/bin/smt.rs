@@ -1,9 +1,9 @@
 //! smt FOLDER [SEED]: writes each pair of the workloads that is not refused as two QF_UF queries, FOLDER/WORKLOAD-PAIR.named.smt2
-//! (a constant and an equation for each update) and .inlined.smt2 (a definition for each). `unsat` is "equal": no contents and no
-//! meaning tell the unrolled programs apart. An out element that a side does not write is a constant of that side's own, so that
-//! some content tells it from what the other side has there. That the arguments of a marked operator may swap is an equation for
-//! each of its applications: a meaning in which these hold can be changed elsewhere into one that respects the marks, so the
-//! verdict is the same. The first line has the verdict that is expected and the workload's name.
+//! (a constant and an equation for each update) and .inlined.smt2 (a definition for each). `unsat` is "equal" with all bits of the
+//! mask: no contents and no meaning tell the unrolled programs apart in an out or inout array. An out element that a side does not
+//! write is a constant of that side's own, so that some content tells it from what the other side has there. That the arguments of a
+//! marked operator may swap is an equation for each of its applications: a meaning in which these hold can be changed elsewhere into
+//! one that respects the marks, so the verdict is the same. The first line has the verdict that is expected and the workload's name.
 
 use std::collections::BTreeSet;
 use std::fmt::Write;
@@ -98,7 +98,8 @@ impl Query {
     fn goal(&mut self, tables: &Tables, left: &Side, right: &Side) -> String {
         let mut text = String::from("(assert (or false");
         for (array, declared) in tables.shared().iter().enumerate() {
-            for cell in (0..declared.cells()).filter(|_| declared.role.compared()) {
+            let compared = matches!(declared.role, Role::Out | Role::Inout);
+            for cell in (0..declared.cells()).filter(|_| compared) {
                 let [one, other] =
                     [left, right].map(|side| self.held(side, tables, array as u32, cell as u32));
                 if one != other {
