@@ -1,6 +1,6 @@
-/* example [--explain] LEFT RIGHT: compares two program files and prints the line, as `tengmua` does; the exit status is the reply's
- * kind. With --explain a difference has a line for each side more: the bytes of the statement that wrote the element last and
- * the index values, or that the element has its starting content. */
+/* example [--all] [--explain] LEFT RIGHT: compares two program files in their out arrays and prints the line, as `tengmua` does; with
+ * --all in their inout arrays too. The exit status is the reply's kind. With --explain a difference has a line for each side more: the
+ * bytes of the statement that wrote the element last and the index values, or that the element has its starting content. */
 #include <stdio.h>
 #include <string.h>
 
@@ -51,25 +51,45 @@ static void print_explanation(const char *side, tengmua_explanation explanation)
     printf("\n");
 }
 
+static tengmua_reply compare(int all, size_t left_length, size_t right_length) {
+    if (all)
+        return tengmua_compare_programs(left, left_length, right, right_length, TENGMUA_ALL,
+                                        left_list, TENGMUA_LIST_WORDS, right_list, TENGMUA_LIST_WORDS,
+                                        cells, TENGMUA_CELL_WORDS, terms, TENGMUA_TERM_WORDS);
+    return tengmua_compare_plain(left, left_length, right, right_length,
+                                 left_list, TENGMUA_LIST_WORDS, right_list, TENGMUA_LIST_WORDS,
+                                 cells, TENGMUA_CELL_WORDS, terms, TENGMUA_TERM_WORDS);
+}
+
+/* Both sides of a difference. The mask of its array alone names the same element, whichever comparison found it. */
+static void explain(size_t array, size_t left_length, size_t right_length) {
+    for (size_t side = TENGMUA_LEFT; side <= TENGMUA_RIGHT; side++)
+        print_explanation(side == TENGMUA_LEFT ? "left" : "right", tengmua_explain(
+            left, left_length, right, right_length, (uint16_t)(1 << array), side,
+            left_list, TENGMUA_LIST_WORDS, right_list, TENGMUA_LIST_WORDS,
+            cells, TENGMUA_CELL_WORDS, terms, TENGMUA_TERM_WORDS));
+}
+
 int main(int count, char **words) {
-    int explain = count == 4 && strcmp(words[1], "--explain") == 0;
-    if (count != 3 && !explain) {
-        fprintf(stderr, "usage: example [--explain] LEFT RIGHT\n");
+    int all = 0, explained = 0, known = count >= 3;
+    for (int word = 1; word < count - 2; word++)
+        if (strcmp(words[word], "--all") == 0)
+            all = 1;
+        else if (strcmp(words[word], "--explain") == 0)
+            explained = 1;
+        else
+            known = 0;
+    if (!known) {
+        fprintf(stderr, "usage: example [--all] [--explain] LEFT RIGHT\n");
         return 3;
     }
     long left_length = read_file(words[count - 2], left);
     long right_length = read_file(words[count - 1], right);
     if (left_length < 0 || right_length < 0)
         return 3;
-    tengmua_reply reply = tengmua_compare_programs(
-        left, (size_t)left_length, right, (size_t)right_length, TENGMUA_ALL,
-        left_list, TENGMUA_LIST_WORDS, right_list, TENGMUA_LIST_WORDS,
-        cells, TENGMUA_CELL_WORDS, terms, TENGMUA_TERM_WORDS);
+    tengmua_reply reply = compare(all, (size_t)left_length, (size_t)right_length);
     print_reply(reply);
-    for (size_t side = 0; explain && reply.kind == TENGMUA_DIFFERS && side < 2; side++)
-        print_explanation(side == TENGMUA_LEFT ? "left" : "right", tengmua_explain(
-            left, (size_t)left_length, right, (size_t)right_length, TENGMUA_ALL, side,
-            left_list, TENGMUA_LIST_WORDS, right_list, TENGMUA_LIST_WORDS,
-            cells, TENGMUA_CELL_WORDS, terms, TENGMUA_TERM_WORDS));
+    if (explained && reply.kind == TENGMUA_DIFFERS)
+        explain(reply.first, (size_t)left_length, (size_t)right_length);
     return (int)reply.kind;
 }

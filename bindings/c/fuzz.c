@@ -14,6 +14,8 @@
 /* The separately written checker (bindings/twin). */
 tengmua_reply twin_compare_programs(const uint8_t *, size_t, const uint8_t *, size_t, uint16_t, uint32_t *, size_t,
                                     uint32_t *, size_t, uint32_t *, size_t, uint32_t *, size_t);
+tengmua_reply twin_compare_plain(const uint8_t *, size_t, const uint8_t *, size_t, uint32_t *, size_t, uint32_t *, size_t,
+                                 uint32_t *, size_t, uint32_t *, size_t);
 tengmua_reply twin_compare_lists(const uint32_t *, size_t, const uint32_t *, size_t, uint16_t, uint32_t *, size_t,
                                  uint32_t *, size_t);
 tengmua_reply twin_unroll(const uint8_t *, size_t, uint32_t *, size_t);
@@ -131,11 +133,13 @@ static int same_reply(tengmua_reply one, tengmua_reply other) {
     return one.kind == other.kind && one.first == other.first && one.second == other.second && one.third == other.third;
 }
 
-/* How often each kind of reply came, for the report: a run that only refuses shows. */
-static size_t kinds[5][3];
+enum entry { PROGRAMS, PLAIN, LISTS, UNROLL, CHECK, EXPLAIN, ENTRIES };
 
-static void note(int entry, tengmua_reply ours, tengmua_reply theirs, int memory, size_t number) {
-    static const char *const names[] = {"compare_programs", "compare_lists", "unroll", "check_list"};
+/* How often each kind of reply came, for the report: a run that only refuses shows. */
+static size_t kinds[ENTRIES][3];
+
+static void note(enum entry entry, tengmua_reply ours, tengmua_reply theirs, int memory, size_t number) {
+    static const char *const names[] = {"compare_programs", "compare_plain", "compare_lists", "unroll", "check_list"};
     if (!same_reply(ours, theirs) || !memory) {
         printf("%s, call %zu: ours %zu %zu %zu %zu, separate %zu %zu %zu %zu, memory %s\n", names[entry], number, ours.kind,
                ours.first, ours.second, ours.third, theirs.kind, theirs.first, theirs.second, theirs.third,
@@ -169,7 +173,7 @@ static void note_explanation(tengmua_explanation ours, tengmua_explanation their
         exit(1);
     }
     must(ours.kind < 3, "no such kind");
-    kinds[4][ours.kind]++;
+    kinds[EXPLAIN][ours.kind]++;
 }
 
 static uint8_t left_bytes[MOST_BYTES], right_bytes[MOST_BYTES];
@@ -241,7 +245,23 @@ static void call_programs(size_t number) {
     int memory = alike(a) & alike(b) & alike(c) & alike(d);
     give_back(left);
     give_back(right);
-    note(0, ours, theirs, memory, number);
+    note(PROGRAMS, ours, theirs, memory, number);
+}
+
+/* Half of the pairs mostly differ, in out or in inout arrays. */
+static void call_plain(size_t number) {
+    make_programs_from(below(2) ? twin_differing : twin_programs, below(3) ? 3 : below(4));
+    slice left = copied(left_bytes, lengths[0]), right = copied(right_bytes, lengths[1]);
+    twins a = garbage(TENGMUA_LIST_WORDS), b = garbage(TENGMUA_LIST_WORDS), c = garbage(TENGMUA_CELL_WORDS),
+          d = garbage(TENGMUA_TERM_WORDS);
+    tengmua_reply ours = tengmua_compare_plain(left.data, left.bytes, right.data, right.bytes, a.ours.data, a.words,
+                                               b.ours.data, b.words, c.ours.data, c.words, d.ours.data, d.words);
+    tengmua_reply theirs = twin_compare_plain(left.data, left.bytes, right.data, right.bytes, a.theirs.data, a.words,
+                                              b.theirs.data, b.words, c.theirs.data, c.words, d.theirs.data, d.words);
+    int memory = alike(a) & alike(b) & alike(c) & alike(d);
+    give_back(left);
+    give_back(right);
+    note(PLAIN, ours, theirs, memory, number);
 }
 
 static void call_lists(size_t number) {
@@ -256,7 +276,7 @@ static void call_lists(size_t number) {
     int memory = alike(c) & alike(d);
     give_back(left);
     give_back(right);
-    note(1, ours, theirs, memory, number);
+    note(LISTS, ours, theirs, memory, number);
 }
 
 static void call_unroll(size_t number) {
@@ -267,7 +287,7 @@ static void call_unroll(size_t number) {
     tengmua_reply theirs = twin_unroll(program.data, program.bytes, list.theirs.data, list.words);
     int memory = alike(list);
     give_back(program);
-    note(2, ours, theirs, memory, number);
+    note(UNROLL, ours, theirs, memory, number);
 }
 
 static void call_check(size_t number) {
@@ -277,7 +297,7 @@ static void call_check(size_t number) {
     tengmua_reply theirs = twin_check_list(list.data, lengths[0]);
     int memory = memcmp(list.data, left_words, 4 * lengths[0]) == 0;
     give_back(list);
-    note(3, ours, theirs, memory, number);
+    note(CHECK, ours, theirs, memory, number);
 }
 
 static void call_explain(size_t number) {
@@ -310,15 +330,18 @@ int main(int count, char **words) {
     twin_seed(seed);
     for (size_t k = 0; k < calls; k++) {
         call_programs(k);
+        call_plain(k);
         call_lists(k);
         call_unroll(k);
         call_check(k);
         call_explain(k);
     }
-    printf("fuzz %zu, seed %llu: the same replies and memory (equal, differs, refused: programs %zu %zu %zu, lists %zu %zu "
-           "%zu, unroll %zu %zu %zu, check %zu %zu %zu; written, starting content, refused: explain %zu %zu %zu)\n",
-           calls, (unsigned long long)seed, kinds[0][0], kinds[0][1], kinds[0][2], kinds[1][0], kinds[1][1], kinds[1][2],
-           kinds[2][0], kinds[2][1], kinds[2][2], kinds[3][0], kinds[3][1], kinds[3][2], kinds[4][0],
-           kinds[4][1], kinds[4][2]);
+    printf("fuzz %zu, seed %llu: the same replies and memory (equal, differs, refused: programs %zu %zu %zu, plain %zu %zu "
+           "%zu, lists %zu %zu %zu, unroll %zu %zu %zu, check %zu %zu %zu; written, starting content, refused: explain %zu "
+           "%zu %zu)\n",
+           calls, (unsigned long long)seed, kinds[PROGRAMS][0], kinds[PROGRAMS][1], kinds[PROGRAMS][2], kinds[PLAIN][0],
+           kinds[PLAIN][1], kinds[PLAIN][2], kinds[LISTS][0], kinds[LISTS][1], kinds[LISTS][2], kinds[UNROLL][0],
+           kinds[UNROLL][1], kinds[UNROLL][2], kinds[CHECK][0], kinds[CHECK][1], kinds[CHECK][2], kinds[EXPLAIN][0],
+           kinds[EXPLAIN][1], kinds[EXPLAIN][2]);
     return 0;
 }

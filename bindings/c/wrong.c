@@ -1,4 +1,4 @@
-/* A library that is wrong in one thing (FAULT 1 to 10), in place of libcabi.a: the harness must find each, or it could not fail.
+/* A library that is wrong in one thing (FAULT 1 to 13), in place of libcabi.a: the harness must find each, or it could not fail.
  * Without a fault (0) it is the separately written checker, and must pass. */
 #include <string.h>
 
@@ -6,6 +6,8 @@
 
 tengmua_reply twin_compare_programs(const uint8_t *, size_t, const uint8_t *, size_t, uint16_t, uint32_t *, size_t,
                                     uint32_t *, size_t, uint32_t *, size_t, uint32_t *, size_t);
+tengmua_reply twin_compare_plain(const uint8_t *, size_t, const uint8_t *, size_t, uint32_t *, size_t, uint32_t *, size_t,
+                                 uint32_t *, size_t, uint32_t *, size_t);
 tengmua_reply twin_compare_lists(const uint32_t *, size_t, const uint32_t *, size_t, uint16_t, uint32_t *, size_t,
                                  uint32_t *, size_t);
 tengmua_reply twin_unroll(const uint8_t *, size_t, uint32_t *, size_t);
@@ -21,6 +23,24 @@ tengmua_reply tengmua_compare_programs(const uint8_t *left, size_t left_length, 
                                                 right_list, right_list_length, cells, cells_length, terms, terms_length);
     if (FAULT == 1 && terms_length)
         terms[terms_length - 1]++; /* work memory is not as promised */
+    return reply;
+}
+
+tengmua_reply tengmua_compare_plain(const uint8_t *left, size_t left_length, const uint8_t *right, size_t right_length,
+                                    uint32_t *left_list, size_t left_list_length, uint32_t *right_list,
+                                    size_t right_list_length, uint32_t *cells, size_t cells_length, uint32_t *terms,
+                                    size_t terms_length) {
+    tengmua_reply reply = twin_compare_plain(left, left_length, right, right_length, left_list, left_list_length, right_list,
+                                             right_list_length, cells, cells_length, terms, terms_length);
+    tengmua_reply all = twin_compare_programs(left, left_length, right, right_length, TENGMUA_ALL, left_list,
+                                              left_list_length, right_list, right_list_length, cells, cells_length, terms,
+                                              terms_length);
+    if (FAULT == 11 && all.kind == TENGMUA_DIFFERS)
+        reply = all; /* a difference in an inout array is seen too */
+    if (FAULT == 12 && all.kind == TENGMUA_EQUAL)
+        reply = all; /* elements of inout arrays are counted too */
+    if (FAULT == 13 && reply.second != 25)
+        left_list[0] = 1; /* work memory is not all zeros */
     return reply;
 }
 
