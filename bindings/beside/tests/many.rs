@@ -25,17 +25,21 @@ fn theirs(batch: &[u8]) -> String {
     String::from_utf8(out).expect("text")
 }
 
+/// Inout arrays are compared too.
 #[test]
 fn known_pairs() {
     let copy = "array A in [3] array B out [3] for i = 0 to 2 { B[i] = A[i] }";
     let less = "array A in [3] array B out [3] for i = 0 to 1 { B[i] = A[i] }";
     let other = "array A in [3] array B out [4] B[0] = A[0]";
-    let mut batch = batch_of(&[pair(copy, copy), pair(copy, less), pair(copy, other)]);
-    let lines = "equal 3\ndiffers 1 2\nrefused both 22 1\n";
-    let totals = "pairs 3 equal 1 differs 1 refused 1 elements 3\n";
+    let [kept, written] = ["array A inout [2]", "array A inout [2] A[1] = const 1"];
+    let pairs = [(copy, copy), (copy, less), (copy, other), (kept, kept), (kept, written)];
+    let mut batch = batch_of(&pairs.map(|(left, right)| pair(left, right)));
+    let lines = "equal 3\ndiffers 1 2\nrefused both 22 1\nequal 2\ndiffers 0 1\n";
+    let totals = "pairs 5 equal 2 differs 2 refused 1 elements 5\n";
     assert_eq!(ours(&batch), format!("{lines}{totals}"));
+    assert_eq!(theirs(&batch), ours(&batch));
     batch.extend([0, 0, 1]);
-    let totals = "pairs 4 equal 1 differs 1 refused 2 elements 3\n";
+    let totals = "pairs 6 equal 2 differs 2 refused 2 elements 5\n";
     assert_eq!(ours(&batch), format!("{lines}refused input 1 0\n{totals}"));
     assert_eq!(ours(&[]), "pairs 0 equal 0 differs 0 refused 0 elements 0\n");
 }
