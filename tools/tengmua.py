@@ -1,10 +1,10 @@
 """Prints the proved reply for two loop programs, or for many pairs; HELP says how it is called. `tengmua` starts it.
 
-A reply is written only where both programs were read whole and `pair` gave exactly one whole line, or `explain` exactly those of
-an explained reply; all of it is written at once. Of many pairs each line is written as `batch` gives it, and the last one, with
-the totals, only where `batch` was handed all pairs and ended well, and the totals are those of the lines. Everything else is a line
-on standard error and status 3. The programs are run from private copies whose names hold the digest of the sources that they were
-proved from and the digest of their own bytes, so neither an old binary nor a damaged one answers.
+A reply is written only where both programs were read whole and `pair` gave exactly one whole line, or `explain` or `masked` exactly
+those of an explained reply; all of it is written at once. Of many pairs each line is written as `batch` gives it, and the last one,
+with the totals, only where `batch` was handed all pairs and ended well, and the totals are those of the lines. Everything else is a
+line on standard error and status 3. The programs are run from private copies whose names hold the digest of the sources that they
+were proved from and the digest of their own bytes, so neither an old binary nor a damaged one answers.
 """
 import codecs
 import contextlib
@@ -26,8 +26,8 @@ import time
 HELP = """\
 tengmua: do two loop programs leave the same values?
 
-  tengmua [--explain] [--places] [--bytes] [--unproved] [--] LEFT RIGHT
-  tengmua [--explain] [--places] [--unproved] -
+  tengmua [--mask BITS | --all] [--explain] [--places] [--bytes] [--unproved] [--] LEFT RIGHT
+  tengmua [--mask BITS | --all] [--explain] [--places] [--unproved] -
                                 a framed pair on standard input: the left's length in two bytes, the left, the right
   tengmua --batch [--bytes] [--unproved] [--part K/N] [--] LEFT RIGHT [LEFT RIGHT ...]
   tengmua --batch [--bytes] [--unproved] [--part K/N] [--] DIRECTORY
@@ -49,15 +49,23 @@ One line goes to standard output:
   differs A E     cell E of array A is the first that some content and meaning tell apart                      status 1
   refused S K P   question K has a "no" for side S (left, right, both or input) at place P                     status 2
 
-In and inout arrays start alike on both sides; each side has out contents of its own. So an out element that a side does not write
-is a difference, also where neither side writes it.
+Compared are the elements of the out arrays. An inout array may be scratch, so it is compared only where --mask or --all says so.
+In and local arrays never are.
+
+In and inout arrays start alike on both sides; each side has out contents of its own. So a compared out element that a side does not
+write is a difference, also where neither side writes it.
 
 Of an operator that is marked (`op NAME/2*` in a text) only meanings count that give the same result for both orders of its
 arguments.
 
 Status 3: no reply, nothing on standard output, and a line on standard error that says why. Standard error also explains a
-reply: on `differs` the element with its subscripts, on `refused` the question and, for a text, the line and column.
+reply: on `differs` the element with its subscripts, on `refused` the question and, for a text, the line and column, on `equal 0`
+why no element was compared.
 
+  --mask BITS     compare the out and inout arrays whose bit is set, and no other. BITS is 1 to 4 hex digits, with capital or small
+                  letters, and may begin with 0x. Arrays count from 0 as they are declared, and the lowest bit is array 0: 1 is
+                  array 0, 2 array 1, 5 arrays 0 and 2. Bits of in and local arrays, and above the last array, mean nothing
+  --all           compare all out and inout arrays: the same as --mask FFFF
   --explain       on `differs`, a second line for the left program and a third for the right: the statement that wrote the
                   element last, or that none did
 
@@ -73,7 +81,8 @@ reply: on `differs` the element with its subscripts, on `refused` the question a
   --unproved      ask the separately written program, which is not proved but is built in seconds; each line on standard error
                   says so
 
-With --batch each pair has its line, in order. The last line has the totals; C adds up the compared elements of the equal pairs:
+With --batch each pair has its line, in order. All its out and inout arrays are compared, as with --all. The last line has the
+totals; C adds up the compared elements of the equal pairs:
 
   pairs N equal E differs D refused R elements C
 
@@ -90,11 +99,13 @@ program of more than 16,384 bytes is refused and ends it, so does a stream that 
 
 The first call proves and builds what is missing, which takes some minutes.
 
-  $ ./tengmua examples/jacobi.txt examples/jacobi-tiled.txt
+  $ ./tengmua examples/blur.txt examples/blur-tiled.txt
+  equal 400
+  $ ./tengmua --all examples/jacobi.txt examples/jacobi-tiled.txt
   equal 32
-  $ ./tengmua examples/jacobi.alp examples/jacobi-wrong-skew.alp
+  $ ./tengmua --all examples/jacobi.alp examples/jacobi-wrong-skew.alp
   differs 0 2
-  $ ./tengmua --explain examples/jacobi.alp examples/jacobi-wrong-skew.alp
+  $ ./tengmua --all --explain examples/jacobi.alp examples/jacobi-wrong-skew.alp
   differs 0 2
   left: bytes 78 to before 90, i = 1, j = 2: A[j] = B[j]
   right: bytes 112 to before 124, i = 5, j = 1: A[i - 2*j - 1] = B[i - 2*j - 1]
@@ -112,7 +123,9 @@ PAIRS = 65535  # the most pairs that `batch` takes
 LINE = 160  # bytes that no line of `batch` exceeds
 STATEMENT = 1  # the code byte of a statement
 OUT = 1  # the byte of the role of arrays in which an element that a side does not write is a difference
-LOCAL = 3  # the byte of the role of arrays that are not compared
+INOUT = 2  # the byte of the role of arrays that are compared under a mask only
+LOCAL = 3  # the byte of the role of arrays that the other side need not have
+ALL = 0xFFFF  # the mask of all arrays
 MARKED = 0x82  # the byte of an operator of two arguments that may swap
 TEXT = 1 << 20  # bytes of the longest text that is taken
 NO_TEXT = re.compile(rb'[\x00-\x08\x0b\x0c\x0e-\x1f\x7f]')
@@ -120,7 +133,7 @@ NUMBER = rb'(0|[1-9][0-9]*)'
 REPLY = re.compile(b'equal %s\n|differs %s %s\n|refused (left|right|both|input) %s %s\n' % ((NUMBER,) * 5))
 PLACE = rb'(0|[1-9][0-9]{0,4})'
 VALUES = rb'((?: (?:0|-?[1-9][0-9]{0,4})){0,8})'
-# The line of `explain` for a side: of the element that differs (groups 1 and 2), and of no other.
+# The line of `explain` and `masked` for a side: of the element that differs (groups 1 and 2), and of no other.
 ORIGIN = rb'(?:starting \1 \2|written \1 \2 %s %s%s)\n' % (PLACE, PLACE, VALUES)
 EXPLAINED = re.compile(rb'differs %s %s\n%s%s' % (NUMBER, NUMBER, ORIGIN, ORIGIN))
 PLACED = re.compile(r'^ *(.*?) *# (?:end )?at ([0-9]+)$', re.MULTILINE)  # a line of `separate dis --places`
@@ -129,10 +142,13 @@ STATUS = {b'equal': 0, b'differs': 1, b'refused': 2}
 # The replies behind which `batch` takes no further pair: the stream is cut, or a stated length is above its limit.
 ENDING = re.compile(rb'refused (?:input 1|(?:left|right) 2) 0\n')
 PART = re.compile('([0-9]{1,9})/([0-9]{1,9})')
+BITS = re.compile('(?:0x)?([0-9A-Fa-f]{1,4})')
 SIDED = re.compile(rb'(.+)\.(left|right)(?:\.[^.]+)?', re.DOTALL)  # the name of a file of a pair: NAME, side
 TWICE_SIDED = re.compile(rb'.+\.(?:left|right)\.(?:left|right)', re.DOTALL)  # the last word may be the side or EXT
-OPTIONS = ('--help', '--question', '--explain', '--places', '--bytes', '--unproved', '--batch', '--part', '--totals')
-FORMS = (('--totals', '--totals FILE...'), ('--batch', '--batch DIRECTORY'))
+OPTIONS = ('--help', '--question', '--mask', '--all', '--explain', '--places', '--bytes', '--unproved', '--batch', '--part',
+           '--totals')
+VALUED = ('--question', '--mask', '--part')  # each takes the word behind it
+FORMS = (('--totals', '--totals FILE...'), ('--batch', '--batch DIRECTORY'), ('--mask', '--mask BITS LEFT RIGHT'))
 SIGNALS = (signal.SIGINT, signal.SIGTERM, signal.SIGHUP)
 TELL_EVERY = 20  # seconds between lines that say how far a build is
 SHOW_EVERY = 0.1  # seconds between two states of the line that says how far a run is
@@ -588,7 +604,7 @@ class Origin:
 
 
 def origins_of(output, files):
-    """What `explain` says of both sides of a difference: None of one that never wrote the element; no list where a part is wrong."""
+    """What is said of both sides of a difference: None of one that never wrote the element; no list where a part is wrong."""
     found = EXPLAINED.fullmatch(output)
     if found is None:
         return None
@@ -597,10 +613,10 @@ def origins_of(output, files):
 
 
 def ask(name, data, files, unproved):
-    """What is printed, the reply's line first, and the origins on both sides where `explain` has a difference; or a failure."""
+    """What is printed, the reply's line first, and where another program than `pair` has a difference the origins; or a failure."""
     path, words = (program(Separate), [name]) if unproved else (program(Proved(name)), [])
     done = ran(path, words, data)
-    if name == 'explain' and done.stdout.startswith(b'differs'):
+    if name != 'pair' and done.stdout.startswith(b'differs'):
         origins = origins_of(done.stdout, files)
     else:
         origins = [] if REPLY.fullmatch(done.stdout) else None
@@ -642,7 +658,7 @@ def side_line(side, origin, file):
 
 
 def lines_of(output, origins, files):
-    """The reply's line and, on a difference, one for each side. Where these can't be made, the failure has what `explain` printed."""
+    """The reply's line and one for each origin. Where these can't be made, the failure has what the program printed."""
     line, *said = output.decode().splitlines()
     try:
         lines = [side_line(*one) for one in zip(SIDES, origins, files)]
@@ -757,14 +773,28 @@ def explain_place(file, place):
             say(f'{shown(file.name)}: place {place} is line {number} of its text (separate dis --places): {text}')
 
 
-def explain(line, files, origins, places):
+def explain_nothing(file, mask):
+    """Why no element was compared. An array has one cell or more, so none was compared that has any."""
+    roles = {role for role, _ in arrays_of(file.bytes)}
+    if mask is None:
+        why = 'no out array is declared' + ('; --all compares the inout arrays too' if INOUT in roles else '')
+    elif roles & {OUT, INOUT}:
+        why = f'no out or inout array has its bit set in the mask {mask:04X}'
+    else:
+        why = 'no out or inout array is declared'
+    say(f'no element was compared: {why}')
+
+
+def explain(line, files, origins, call):
     """What a reply says of the files, on standard error. A reply stands without it."""
     words = line.decode().split()
     try:
         if words[0] == 'differs':
             explain_differs(int(words[1]), int(words[2]), files, origins)
         elif words[0] == 'refused':
-            explain_refused(words[1], int(words[2]), int(words[3]), files, places)
+            explain_refused(words[1], int(words[2]), int(words[3]), files, '--places' in call.options)
+        elif words[1] == '0':
+            explain_nothing(files[0], call.mask)
     except (Failure, OSError, LookupError, struct.error, subprocess.SubprocessError) as error:
         say(f'the reply can\'t be explained: {error}')
 
@@ -1116,15 +1146,16 @@ class Call:
     """The words of the command line."""
 
     def __init__(self, words):
-        self.options = set()
-        self.question = self.part = None
+        self.options, values = set(), {}
         while words and words[0] in OPTIONS:
             option = words.pop(0)
-            if option == '--question':
-                self.question = words.pop(0) if words else ''
-            if option == '--part':
-                self.part = words.pop(0) if words else ''
+            if option == '--mask' and option in values:
+                raise Failure('--mask stands twice: one mask is asked for, with the bits of all arrays to compare')
+            if option in VALUED:
+                values[option] = words.pop(0) if words else ''
             self.options.add(option)
+        self.question, self.part = values.get('--question'), values.get('--part')
+        self.mask = mask_of(self.options, values.get('--mask'))
         self.framed = words == ['-']
         if words and words[0] == '--':
             words.pop(0)
@@ -1147,6 +1178,32 @@ class Call:
         return not options & {'--explain', '--places'} and (count == 1 or count > 0 and count % 2 == 0)
 
 
+def mask_of(options, bits):
+    """The mask that says which out and inout arrays are compared; None where the out arrays are."""
+    if not options & {'--mask', '--all'}:
+        return None
+    if '--batch' in options:
+        raise Failure('many pairs are always compared in all out and inout arrays: neither --mask nor --all goes with --batch')
+    for other in ('--totals', '--question', '--help'):
+        if other in options:
+            raise Failure(f'--mask and --all say which arrays of one pair are compared: neither goes with {other}')
+    if bits is None:
+        return ALL
+    if '--all' in options:
+        raise Failure('--mask and --all: only one of them may stand')
+    found = BITS.fullmatch(bits)
+    if found is None:
+        raise Failure(f'--mask {shown(bits)}: BITS is asked for, 1 to 4 hex digits, with or without 0x before them')
+    return int(found.group(1), 16)
+
+
+def asked(call):
+    """The program for one pair, and what stands before the framed pair in its input."""
+    if call.mask is not None:
+        return 'masked', struct.pack('<H', call.mask)
+    return 'explain' if '--explain' in call.options else 'pair', b''
+
+
 def framed_files(data):
     """The two programs of a framed pair, as far as they are there."""
     length = struct.unpack('<H', data[:2].ljust(2, b'\0'))[0]
@@ -1165,13 +1222,16 @@ def reply(call):
     else:
         files = read_pair(call.names, '--bytes' in call.options, set())
         data = framed(files[0].bytes, files[1].bytes)
-    output, origins = ask('explain' if '--explain' in call.options else 'pair', data, files, '--unproved' in call.options)
+    name, before = asked(call)
+    output, origins = ask(name, before + data, files, '--unproved' in call.options)
+    if '--explain' not in call.options:
+        origins = []
     lines = lines_of(output, origins, files)
     if mark:
         say('this reply is of the separately written program')
     write_out(lines)
     line = output.split(b'\n')[0]
-    explain(line, files, origins, '--places' in call.options)
+    explain(line, files, origins, call)
     return STATUS[line.split()[0]]
 
 
