@@ -99,8 +99,10 @@ program of more than 16,384 bytes is refused and ends it, so does a stream that 
 
 The first call proves and builds what is missing, which takes some minutes.
 
-  $ ./tengmua examples/blur.txt examples/blur-tiled.txt
-  equal 400
+  $ ./tengmua examples/scratch.txt examples/scratch-tuned.txt
+  equal 32
+  $ ./tengmua --all examples/scratch.txt examples/scratch-tuned.txt
+  differs 2 0
   $ ./tengmua --all examples/jacobi.txt examples/jacobi-tiled.txt
   equal 32
   $ ./tengmua --all examples/jacobi.alp examples/jacobi-wrong-skew.alp
@@ -774,7 +776,7 @@ def explain_place(file, place):
 
 
 def explain_nothing(file, mask):
-    """Why no element was compared. An array has one cell or more, so none was compared that has any."""
+    """Why no element was compared: each array has some, so no array was."""
     roles = {role for role, _ in arrays_of(file.bytes)}
     if mask is None:
         why = 'no out array is declared' + ('; --all compares the inout arrays too' if INOUT in roles else '')
