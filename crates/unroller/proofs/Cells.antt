@@ -75,13 +75,13 @@ module _ (v : ℤ) (f : SFits w32 v) where
 module _ (s : List ℕ) (at loops : ℕ) (is : List ℤ) (e : ℕ) where
   pub subscript-no : (r : Valued) (k : ℕ) → Values s at loops is r → r ≡ valued.No k → Subscript s at loops is e (cell.No k)
   unfolding Subscript Values
-  subscript-no r k h q f next p g l i = values-none (h f next g l i) q
+  subscript-no r k h q f next p g l i = values-none p r (h f next p g l i) q
 
   -- the value is handed on by its bits
   pub subscript-is : (r : Valued) (v : ℤ) (to : ℕ) (a : Cell) → SFits w32 v → Values s at loops is r → r ≡ valued.Is v to → InExtent e (toZ w32 (ofZ w32 v)) to a → Subscript s at loops is e a
   unfolding Subscript Values InExtent
   subscript-is r v to a b h q x f next p g l i =
-      let y = values-some (h f next g l i) q in
+      let y = values-some p r (h f next p g l i) q in
       subst (λ (z : ℤ). CellIs (inExtent p e z) next a) (y .0) (subst (λ (n : ℕ). CellIs (inExtent p e v) n a) (y .1) (subst (λ (z : ℤ). CellIs (inExtent p e z) to a) (toZ-ofZ {w = w32} {z = v} b) (x p)))
 
 -- a part of a run that gave a cell, and what follows it

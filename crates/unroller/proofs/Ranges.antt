@@ -74,18 +74,18 @@ steps-last s at first last f g z next p h = rw (f, g) refl
 module _ (s : List ℕ) (at loops : ℕ) (is : List ℤ) where
   pub ranges-first : (v₀ : Valued) (k : ℕ) → v₀ ≡ valued.No k → Values s at loops is v₀ → Ranges s at loops is (range.No k)
   unfolding Ranges Values
-  ranges-first v₀ k case v f g z m n next p e1 e2 e3 b8 l8 = values-none (v f m e1 b8 l8) case
+  ranges-first v₀ k case v f g z m n next p e1 e2 e3 b8 l8 = values-none p v₀ (v f m p e1 b8 l8) case
 
   module _ (v₀ v₁ : Valued) (a : ℤ) (to : ℕ) (case : v₀ ≡ valued.Is a to) (v : Values s at loops is v₀) (w : Values s to loops is v₁) where
     pub ranges-last : (k : ℕ) → v₁ ≡ valued.No k → Ranges s at loops is (range.No k)
     unfolding Ranges Values
-    ranges-last k case₁ f g z m n next p e1 e2 e3 b8 l8 = let q = values-some (v f m e1 b8 l8) case in values-none (w g n (ap (form loops s) (q .1) ∙ e2) b8 l8) case₁
+    ranges-last k case₁ f g z m n next p e1 e2 e3 b8 l8 = let q = values-some p v₀ (v f m p e1 b8 l8) case in values-none p v₁ (w g n p (ap (form loops s) (q .1) ∙ e2) b8 l8) case₁
 
     pub ranges-both : (b : ℤ) (end : ℕ) (r : Range) → v₁ ≡ valued.Is b end → Steps s end a b r → Ranges s at loops is r
     unfolding Ranges Steps Values
     ranges-both b end r case₁ u f g z m n next p e1 e2 e3 b8 l8 =
-        let q = values-some (v f m e1 b8 l8) case in
-        let q₁ = values-some (w g n (ap (form loops s) (q .1) ∙ e2) b8 l8) case₁ in
+        let q = values-some p v₀ (v f m p e1 b8 l8) case in
+        let q₁ = values-some p v₁ (w g n p (ap (form loops s) (q .1) ∙ e2) b8 l8) case₁ in
         subst (λ (y : ℤ). RangeIs (within16 p y (valueAt g (take loops is))) z next r) (q .0)
         (subst (λ (y : ℤ). RangeIs (within16 p a y) z next r) (q₁ .0) (u z next p (ap (step s) (q₁ .1) ∙ e3)))
 

@@ -110,7 +110,7 @@ wrote-more f g make ws w list list1 to to1 next e1 e2 (stop question place) (wro
 module _ (s : List ℕ) (at loops : ℕ) (is : List ℤ) (list : List ℕ) (to : ℕ) (list′ : List ℕ) (r : Valued) (v : Values s at loops is r) where
   pub literal-no : (k : ℕ) → r ≡ valued.No k → WritesLiteral s at loops is list to (wrote.No k) list′
   unfolding WritesLiteral Values literalOf
-  literal-no k q t e next p g l i a w = read-by (form loops s at) _ g λ f at1 e1 r1. values-none (v f at1 e1 l i) q
+  literal-no k q t e next p g l i a w = read-by (form loops s at) _ g λ f at1 e1 r1. values-none p r (v f at1 p e1 l i) q
 
   pub literal-is : (z : ℤ) (n word : ℕ) → SFits w32 z → r ≡ valued.Is z n → word ≡ ofZ w32 (toZ w32 (ofZ w32 z)) → list′ ≡ sets list to (18 ∷ word ∷ 0 ∷ []) →
       WritesLiteral s at loops is list to (wrote.To n (to + 3)) list′
@@ -118,7 +118,7 @@ module _ (s : List ℕ) (at loops : ℕ) (is : List ℤ) (list : List ℕ) (to :
   literal-is z n word j q b w t e next p g l i a room =
       read-by (form loops s at) _ g λ f at1 e1 r1.
       let x : at1 ≡ next = cc in
-      let h = values-some (v f at1 e1 l i) q in
+      let h = values-some p r (v f at1 p e1 l i) q in
       got-is (λ e. WroteIs treeWords list to next (tree e t p (take loops is)) (wrote.To n (to + 3)) list′) r1
       (h .1 ∙ x, refl, w ∙ ap (λ (x : ℕ). sets list to (18 ∷ x ∷ 0 ∷ [])) (b ∙ ap (ofZ w32) (toZ-ofZ {w = w32} {z = z} j ∙ h .0)))
 

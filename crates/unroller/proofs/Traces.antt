@@ -160,13 +160,13 @@ module _ (s : List ℕ) (t : Tables) (left less loops : ℕ) (is : List ℤ) (a 
 
   pub guard-lost : (v₀ : Valued) (k : ℕ) → v₀ ≡ valued.No k → Values s (at + 1) loops is v₀ → (r : ℕ) (w′ : Writer) → TracesNested s at 3 t left loops is a e w r w′
   unfolding TracesNested Values
-  guard-lost v₀ k case values r w′ i next d d′ q b8 eight ran = guard-ran i next d d′ q ran λ g mid js e1 _ _ _. values-none (values g mid e1 (omega arith) (eight .long)) case
+  guard-lost v₀ k case values r w′ i next d d′ q b8 eight ran = guard-ran i next d d′ q ran λ g mid js e1 _ _ _. values-none at v₀ (values g mid at e1 (omega arith) (eight .long)) case
 
   module _ (v₀ : Valued) (u : ℤ) (to : ℕ) (case : v₀ ≡ valued.Is u to) (values : Values s (at + 1) loops is v₀) (r : ℕ) (w′ : Writer) where
     pub guard-runs : ltZ u (pos 0) ≡ false → TracesItems s to t less loops is a e w r w′ → TracesNested s at 3 t left loops is a e w r w′
     unfolding TracesNested TracesItems Values executed body
     guard-runs z v i next d d′ q b8 eight ran = guard-ran i next d d′ q ran λ g mid js e1 e2 x r1.
-        let h = values-some (values g mid e1 (omega arith) (eight .long)) case in
+        let h = values-some at v₀ (values g mid at e1 (omega arith) (eight .long)) case in
         let l : leZ (pos 0) (valueAt g (take loops is)) ≡ true = ap (leZ (pos 0)) (sym (h .0)) ∙ sign-true u z in
         subst (λ (i : Item). Passed s t a e next (executed i (take loops is)) w r w′) (sym x)
         (subst (λ (b : Bool). Passed s t a e next (elim b as (λ b. List Executed) [ true ↦ executeds js (take loops is) | false ↦ [] ]) w r w′) (sym l)
@@ -176,7 +176,7 @@ module _ (s : List ℕ) (t : Tables) (left less loops : ℕ) (is : List ℤ) (a 
     pub guard-passes : ltZ u (pos 0) ≡ true → Finds s to t less loops r → w′ ≡ w → TracesNested s at 3 t left loops is a e w r w′
     unfolding TracesNested Finds Values executed
     guard-passes z v kept i next d d′ q b8 eight ran = guard-ran i next d d′ q ran λ g mid js e1 e2 x _.
-        let h = values-some (values g mid e1 (omega arith) (eight .long)) case in
+        let h = values-some at v₀ (values g mid at e1 (omega arith) (eight .long)) case in
         let l : leZ (pos 0) (valueAt g (take loops is)) ≡ false = ap (leZ (pos 0)) (sym (h .0)) ∙ sign-false u z in
         subst (λ (i : Item). Passed s t a e next (executed i (take loops is)) w r w′) (sym x)
         (subst (λ (b : Bool). Passed s t a e next (elim b as (λ b. List Executed) [ true ↦ executeds js (take loops is) | false ↦ [] ]) w r w′) (sym l)

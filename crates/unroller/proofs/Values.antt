@@ -8,6 +8,7 @@ use lib.IntN.{ℤ, pos, _+ℤ_, _*ℤ_}
 use borrow.Author.Tests.{le-leb}
 use Rattle.reader.specs.Field.{Outcome, got, no}
 use Rattle.reader.specs.Syntax.{Form}
+use Rattle.reader.proofs.Binds.{not-got}
 use Rattle.reader.specs.Grammar.{form}
 use Rattle.reader.specs.Answers.{placed}
 use Rattle.reader.specs.Entries.{formStep, FormIs, formSays, coefficientsIn}
@@ -15,7 +16,7 @@ use Rattle.reader.specs.declared.fields.Place.{Place}
 use Rattle.reader.specs.declared.fields.Place.the-variants.{Next, Not}
 use Rattle.reader.specs.declared.forms.FormRead.{FormRead}
 use Rattle.unroller.specs.Run.{products, valueAt}
-use Rattle.unroller.specs.Forms.{formSum, Values}
+use Rattle.unroller.specs.Forms.{formSum, valuedSays, Values}
 use Rattle.unroller.proofs.Sums.{sum-same, sum-value}
 use Rattle.unroller.proofs.Stands.{default-behind}
 use Rattle.unroller.specs.declared.forms.Valued.{Valued}
@@ -42,7 +43,7 @@ module _ (s : List ℕ) (at loops : ℕ) (is : List ℤ) (r : FormRead) (i : For
 
   pub value-refused : (number place : ℕ) → r .answer ≡ Not number place → Values s at loops is (No number)
   unfolding Values
-  value-refused number place e f next q h l = absurd (placed-not (r .answer) _ f number place next e (says f next q h))
+  value-refused number place e f next p q h l = absurd (placed-not (r .answer) _ f number place next e (says f next q h))
 
   module _ (to : ℕ) (e : r .answer ≡ Next to) (v : ℤ) (w : v ≡ formSum (r .constant) (r .coefficients) is 8) where
     -- coefficients beyond the loops are 0
@@ -64,11 +65,11 @@ module _ (s : List ℕ) (at loops : ℕ) (is : List ℤ) (r : FormRead) (i : For
 
     pub value-formed : Values s at loops is (Is v to)
     unfolding Values
-    value-formed f next q h l = let g = formed f next q h in ap₂ (λ (v : ℤ) (to : ℕ). Is v to) (g .0) (g .1)
+    value-formed f next p q h l = let g = formed f next q h in ap₂ (λ (v : ℤ) (to : ℕ). got v to) (g .0) (g .1)
 
 -- an answer is one value or none
-pub values-none : {r : Valued} {x : ℤ} {next k : ℕ} {P : Type 0} → r ≡ Is x next → r ≡ No k → P
-values-none {r} {x} {next} {k} e q = absurd (let g : _≡_ {A = Valued} (No k) (Is x next) = sym q ∙ e in let z : _≡_ {A = ℕ} 0 1 = cc in omega arith)
+pub values-none : (p : ℕ) (r : Valued) {x : ℤ} {next k : ℕ} {P : Type 0} → valuedSays p r ≡ got x next → r ≡ No k → P
+values-none p r e q = not-got (sym (ap (valuedSays p) q) ∙ e)
 
-pub values-some : {r : Valued} {x y : ℤ} {next to : ℕ} → r ≡ Is x next → r ≡ Is y to → (y ≡ x) × (to ≡ next)
-values-some {r} {x} {y} {next} {to} e q = let g : _≡_ {A = Valued} (Is y to) (Is x next) = sym q ∙ e in (cc, cc)
+pub values-some : (p : ℕ) (r : Valued) {x y : ℤ} {next to : ℕ} → valuedSays p r ≡ got x next → r ≡ Is y to → (y ≡ x) × (to ≡ next)
+values-some p r {x} {y} {next} {to} e q = let g : _≡_ {A = Outcome ℤ} (got y to) (got x next) = sym (ap (valuedSays p) q) ∙ e in (cc, cc)

@@ -215,20 +215,20 @@ module _ (s : List ℕ) (t : Tables) (left less loops at : ℕ) (fewer : left �
 module _ (s : List ℕ) (t : Tables) (bases : List ℕ) (left less loops : ℕ) (is : List ℤ) (at : ℕ) (p : Progress) (l f : List ℕ) (fewer : left ≡ suc less) where
   pub guard-stop : (v₀ : Valued) (k : ℕ) (l′ f′ : List ℕ) → v₀ ≡ valued.No k → Values s (at + 1) loops is v₀ → RunsNested s at 3 t bases left loops is p l f (walk.No k at) l′ f′
   unfolding RunsNested Values
-  guard-stop v₀ k l′ f′ case v i next d e b8 l8 based h = guard-by s t left less loops at fewer e λ g mid js e1 e2 x. values-none (v g mid e1 (omega arith) l8) case
+  guard-stop v₀ k l′ f′ case v i next d e b8 l8 based h = guard-by s t left less loops at fewer e λ g mid js e1 e2 x. values-none at v₀ (v g mid at e1 (omega arith) l8) case
 
   module _ (v₀ : Valued) (v : ℤ) (to : ℕ) (case : v₀ ≡ valued.Is v to) (w₀ : Values s (at + 1) loops is v₀) (r : Walk) where
     pub guard-runs : (l′ f′ : List ℕ) → ltZ v (pos 0) ≡ false → RunsItems s to t bases less loops is p l f r l′ f′ → RunsNested s at 3 t bases left loops is p l f r l′ f′
     unfolding RunsNested RunsItems Values run guarded body
     guard-runs l′ f′ z u i next d e b8 l8 based h = guard-by s t left less loops at fewer e λ g mid js e1 e2 x.
-        let q = values-some (w₀ g mid e1 (omega arith) l8) case in
+        let q = values-some at v₀ (w₀ g mid at e1 (omega arith) l8) case in
         rw x (subst (λ (m : Ran Done). Walked t next m r l′ f′) (sym (ap (guarded js t (take loops is) d) (sym (q .0)) ∙ guarded-runs js t (take loops is) d v z))
         (u js next (length s) d (ap (body t (length s) less loops s) (q .1) ∙ e2) (omega arith) l8 based h))
 
     pub guard-passes : ltZ v (pos 0) ≡ true → Passes s to t less loops p r → RunsNested s at 3 t bases left loops is p l f r l f
     unfolding RunsNested Passes Values run guarded
     guard-passes z u i next d e b8 l8 based h = guard-by s t left less loops at fewer e λ g mid js e1 e2 x.
-        let q = values-some (w₀ g mid e1 (omega arith) l8) case in
+        let q = values-some at v₀ (w₀ g mid at e1 (omega arith) l8) case in
         rw x (subst (λ (m : Ran Done). Walked t next m r l f) (sym (ap (guarded js t (take loops is) d) (sym (q .0)) ∙ guarded-passes js t (take loops is) d v z))
         (subst (λ (r : Walk). Walked t next (ok d) r l f) (sym (u js next (ap (body t (length s) less loops s) (q .1) ∙ e2) (omega arith))) (refl, h)))
 

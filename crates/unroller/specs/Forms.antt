@@ -6,7 +6,7 @@ use lib.ListN.{length, getD, take}
 use lib.IntN.{ℤ, pos, negsuc, _+ℤ_, _*ℤ_, natAbs}
 use mir.Syntax.{Width, w32}
 use mir.Val.{bits, toZ}
-use Rattle.reader.specs.Field.{got}
+use Rattle.reader.specs.Field.{Outcome, got, no}
 use Rattle.reader.specs.Syntax.{Form}
 use Rattle.reader.specs.Grammar.{form}
 use Rattle.reader.specs.Entries.{bytesOf}
@@ -33,9 +33,15 @@ wrappedSum z cs is (suc n) = wrapped w32 (wrappedSum z cs is n +ℤ wrapped w32 
 unfoldable pub Packs : List ℤ → ℕ → Type 0
 Packs cs w = (k : ℕ) → k < 8 → getD (bytesOf 8 w) k (pos 0) ≡ getD cs k (pos 0)
 
+-- what each case stands for: a value and the place past its form, or a question's number. Its place is the item's, which is p.
+abbrev pub valuedSays : ℕ → Valued → Outcome ℤ
+valuedSays p (Is v next) = got v next
+valuedSays p (No number) = no number p
+
 -- What working out the form that stands at a place answers: its value, and the place past it.
 unfoldable pub Values : List ℕ → ℕ → ℕ → List ℤ → Valued → Type 0
-Values s at loops is r = (f : Form) (next : ℕ) → form loops s at ≡ got f next → loops ≤ 8 → length is ≡ 8 → r ≡ Is (valueAt f (take loops is)) next
+Values s at loops is r =
+    (f : Form) (next p : ℕ) → form loops s at ≡ got f next → loops ≤ 8 → length is ≡ 8 → valuedSays p r ≡ got (valueAt f (take loops is)) next
 
 -- no value is larger, whatever the bytes are
 abbrev pub Small : Valued → Type 0

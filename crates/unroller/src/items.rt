@@ -14,6 +14,7 @@ use crate::forms::value_at;
 use crate::statement::statement;
 use crate::walk::Flags;
 use crate::walk::Walk;
+use crate::walk::inner_indices;
 use reader::fields::Place;
 use reader::fields::Signed;
 use reader::fields::step_at;
@@ -382,8 +383,7 @@ fn round(
             return Walk::On(body + 1, made + 1, nodes, updates);
         }
     }
-    let mut inner = indices;
-    inner[loops] = index;
+    let inner = inner_indices(indices, loops, index);
     items(
         program,
         body,

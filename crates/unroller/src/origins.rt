@@ -19,6 +19,7 @@ use crate::items::Range;
 use crate::items::range_at;
 use crate::statement::Cell;
 use crate::statement::cell_at;
+use crate::walk::inner_indices;
 use model::memory::clear;
 use reader::expressions::expression_end;
 use reader::fields::Field;
@@ -384,8 +385,7 @@ fn round(
             return body + 1;
         }
     }
-    let mut inner = indices;
-    inner[loops] = index;
+    let inner = inner_indices(indices, loops, index);
     items(
         program,
         body,

@@ -1,4 +1,7 @@
 // What the walk over a program's items hands on.
+ghost use mathlib.Core.Path.{_≡_};
+ghost use Prim.Native.Nat.{_<_};
+ghost use lib.ListN.{set};
 use model::sizes::MOST_CELLS;
 
 // For each cell whether an update has written it.
@@ -9,4 +12,14 @@ pub(crate) type Flags = [u8; MOST_CELLS];
 pub(crate) enum Walk {
     On(usize, usize, usize, usize),
     No(u8, usize),
+}
+
+// The index values around the body of a loop: those around the loop, outermost first, and behind them its own.
+pub(crate) fn inner_indices(indices: [i16; 8], loops: usize, index: i16) -> [i16; 8]
+    requires { ⌜ loops < 8 ⌝ }
+    ensures { λ r. ⌜ r ≡ set indices loops index ⌝ }
+{
+    let mut inner = indices;
+    inner[loops] = index;
+    inner
 }

@@ -48,6 +48,7 @@ use Rattle.unroller.proofs.forms.value_at.Reads as value-at-reads
 use Rattle.unroller.proofs.items.passed.Reads as passed-reads
 use Rattle.unroller.proofs.items.range_at.Reads as range-at-reads
 use Rattle.unroller.proofs.statement.statement.Reads as statement-reads
+use Rattle.unroller.proofs.walk.inner_indices.Reads as inner-indices-reads
 use Rattle.unroller.proofs.items.+item+items+round+rounds+run_guard+run_loop.{statement}
 use Rattle.unroller.proofs.items.+item+items+round+rounds+run_guard+run_loop.Tie.{close}
 
@@ -134,7 +135,7 @@ abbrev items-claims : ℕ → items-lts.Claims
 items-claims t = (item-below t, item.Post)
 
 abbrev round-claims : ℕ → round-lts.Claims
-round-claims t = (items-below t, items.Post)
+round-claims t = (inner-indices-reads.Asked, inner-indices-reads.Learnt, items-below t, items.Post)
 
 abbrev rounds-claims : ℕ → rounds-lts.Claims
 rounds-claims t = (goes-on-reads.Asked, goes-on-reads.Learnt, round-below t, round.Post, passed-reads.Asked, passed-reads.Learnt)
@@ -239,11 +240,8 @@ module _ (t : ℕ) where
   round-returns-2 : round-lts.Need-returns-2 (round-claims t) (round-at t) round.Post
   round-returns-2 c = let a = c .before .before .before .before .before .before .args in let s = a .program .now in let t = tablesIn (a .tables .now) in let b = viewed (a .tables .now) .bases in round-empty s (a .at) (a .body) t b (a .left) (a .loops) (a .indices) (a .index) (progress (a .made) (a .nodes) (a .updates)) (a .list .now) (a .flags .now) (c .if3 .taken) (let h = c .before .before .before .if1 .left in omega arith)
 
-  round-mul-inner : round-lts.Need-mul-inner (round-claims t) (round-at t) round.Post
-  round-mul-inner c = search needs
-
-  round-array-set-from-inner : round-lts.Need-array-set-from-inner (round-claims t) (round-at t) round.Post
-  round-array-set-from-inner c = omega arith
+  round-inner-indices-requires : round-lts.Need-inner-indices-requires (round-claims t) (round-at t) round.Post
+  round-inner-indices-requires c κs = omega arith
 
   round-add-items : round-lts.Need-add-items (round-claims t) (round-at t) round.Post
   round-add-items c = omega arith
@@ -258,7 +256,7 @@ module _ (t : ℕ) where
   round-same-length c = search needs
 
   round-returns-3 : round-lts.Need-returns-3 (round-claims t) (round-at t) round.Post
-  round-returns-3 c = let a = c .before .before .before .before .before .before .before .before .before .args in let s = a .program .now in let t = tablesIn (a .tables .now) in let b = viewed (a .tables .now) .bases in rw (toZ-ofZ (c .before .before .before .before .before .before .before .before .before .fits .index)) at (round-runs s (a .at) (a .body) t b (a .left) (a .loops) (a .indices) (toZ w16 (ofZ w16 (a .index))) (progress (a .made) (a .nodes) (a .updates)) (a .list .now) (a .flags .now) _ (c .before .before .items .result) (c .before .before .items .last .1 .1 .1 .1 .1 .1 .1 .1 .1 .1 .0) (c .before .before .items .last .1 .1 .1 .1 .1 .1 .1 .1 .1 .0) (let h = c .before .before .before .before .before .before .if1 .left in omega arith) refl refl refl (c .before .before .items .ensures))
+  round-returns-3 c = let a = c .before .before .before .before .before .before .before .before .before .before .args in let s = a .program .now in let t = tablesIn (a .tables .now) in let b = viewed (a .tables .now) .bases in rw (toZ-ofZ (c .before .before .before .before .before .before .before .before .before .before .fits .index)) at (round-runs s (a .at) (a .body) t b (a .left) (a .loops) (a .indices) (toZ w16 (ofZ w16 (a .index))) (progress (a .made) (a .nodes) (a .updates)) (a .list .now) (a .flags .now) _ (c .before .before .items .result) (c .before .before .items .last .1 .1 .1 .1 .1 .1 .1 .1 .1 .1 .0) (c .before .before .items .last .1 .1 .1 .1 .1 .1 .1 .1 .1 .0) (let h = c .before .before .before .before .before .before .before .if1 .left in omega arith) refl refl refl (subst (λ (l : List ℤ). RunsItems s (a .body) t b (a .left) (a .loops + 1) l (progress (a .made + 1) (a .nodes) (a .updates)) (a .list .now) (a .flags .now) (c .before .before .items .result) (c .before .before .items .last .1 .1 .1 .1 .1 .1 .1 .1 .1 .1 .0) (c .before .before .items .last .1 .1 .1 .1 .1 .1 .1 .1 .1 .0)) (c .before .before .before .before .before .inner-indices .ensures) (c .before .before .items .ensures)))
 
   rounds-cast-end : rounds-lts.Need-cast-end (rounds-claims t) (rounds-at t) rounds.Post rounds-Inv-loop rounds-μ-loop
   rounds-cast-end c = widens (c .before .before .fits .last) w32 tt
@@ -390,4 +388,4 @@ module _ (t : ℕ) where
   run-loop-returns-3 c = let a = c .before .before .before .before .before .before .before .before .before .before .before .before .args in let s = a .program .now in let t = tablesIn (a .tables .now) in let b = viewed (a .tables .now) .bases in loop-runs s t b (a .left) (a .left - 1) (a .loops) (a .indices) (a .at) (progress (a .made) (a .nodes) (a .updates)) (a .list .now) (a .flags .now) (let n = c .before .before .before .before .before .before .before .before .before .if1 .left in omega arith) (c .before .before .before .before .before .before .before .before .range-at .result) (c .before .before .before .before .before .before .first .given .0 .0) (c .before .before .before .before .before .before .first .given .0 .1 .0) (c .before .before .before .before .before .before .first .given .0 .1 .1 .0) (c .before .before .before .before .before .before .first .given .0 .1 .1 .1 .0) (c .before .before .rounds .result) (c .before .before .rounds .last .1 .1 .1 .1 .1 .1 .1 .1 .1 .1 .1 .1 .1 .1 .0) (c .before .before .rounds .last .1 .1 .1 .1 .1 .1 .1 .1 .1 .1 .1 .1 .1 .0) (c .before .before .before .before .before .before .first .given .1) (c .before .before .before .before .before .before .before .before .range-at .ensures .0) (turn-back (c .before .before .before .before .before .before .first .given .0 .0) (c .before .before .before .before .before .before .first .given .0 .1 .0) (c .before .before .before .before .before .before .first .given .0 .1 .1 .0) (sfits-of (c .before .before .before .before .before .known-told2 .given .0 .1)) (sfits-of (c .before .before .before .before .before .known-told2 .given .1 .0 .1)) (sfits-of (c .before .before .before .before .before .known-told2 .given .1 .1 .0 .1)) (λ z l i. RunsRounds s (a .at) (c .before .before .before .before .before .before .first .given .0 .1 .1 .1 .0) t b (a .left - 1) (a .loops) (a .indices) z l 65536 i 0 (progress (a .made) (a .nodes) (a .updates)) (a .list .now) (a .flags .now) (c .before .before .rounds .result) (c .before .before .rounds .last .1 .1 .1 .1 .1 .1 .1 .1 .1 .1 .1 .1 .1 .1 .0) (c .before .before .rounds .last .1 .1 .1 .1 .1 .1 .1 .1 .1 .1 .1 .1 .1 .0)) (c .before .before .rounds .ensures))
 
 pub +item+items+round+rounds+run-guard+run-loop-spec : {M : Type 1} → statement M
-+item+items+round+rounds+run-guard+run-loop-spec = close μ-item μ-items μ-round μ-rounds μ-run-guard μ-run-loop (λ t. item-lts.spec (item-claims t) (item-at t) item.Post (item-statement-requires t) (item-run-loop-requires t) (item-run-guard-requires t) (item-same-length t) (item-returns t) (item-same-length-2 t) (item-returns-2 t) (item-same-length-3 t) (item-returns-3 t) (item-returns-4 t)) (λ t. items-lts.spec (items-claims t) (items-at t) items.Post items-Inv-loop items-μ-loop (items-loop-holds t) (items-shared-slice-read-code t) (items-add-t27 t) (items-same-length t) (items-returns t) (items-item-requires t) (items-enum-known-number t) (items-same-length-2 t) (items-returns-2 t) (items-enum-known-next t) (items-same-length-3 t) (items-returns-3 t) (items-loop-less t) (items-loop-again t) (items-same-length-4 t) (items-returns-4 t)) (λ t. round-lts.spec (round-claims t) (round-at t) round.Post (round-returns t) (round-shared-slice-read-if3 t) (round-add-t20 t) (round-add-t21 t) (round-returns-2 t) (round-mul-inner t) (round-array-set-from-inner t) (round-add-items t) (round-add-items-2 t) (round-items-requires t) (round-same-length t) (round-returns-3 t)) (λ t. rounds-lts.spec (rounds-claims t) (rounds-at t) rounds.Post rounds-Inv-loop rounds-μ-loop (rounds-cast-end t) (rounds-cast-by t) (rounds-cast-index t) (rounds-loop-holds t) (rounds-goes-on-requires t) (rounds-cast-round t) (rounds-round-requires t) (rounds-enum-known-number t) (rounds-same-length t) (rounds-returns t) (rounds-enum-known-next t) (rounds-add-index t) (rounds-loop-less t) (rounds-loop-again t) (rounds-add-passed t) (rounds-passed-requires t) (rounds-same-length-2 t) (rounds-returns-2 t) (rounds-same-length-3 t) (rounds-returns-3 t)) (λ t. run-guard-lts.spec (run-guard-claims t) (run-guard-at t) run-guard.Post (run-guard-returns t) (run-guard-add-value-at t) (run-guard-value-at-requires t) (run-guard-enum-known-number t) (run-guard-enum-known-value t) (run-guard-sub-passed t) (run-guard-passed-requires t) (run-guard-returns-2 t) (run-guard-sub-items t) (run-guard-items-requires t) (run-guard-returns-3 t) (run-guard-same-length t) (run-guard-returns-4 t)) (λ t. run-loop-lts.spec (run-loop-claims t) (run-loop-at t) run-loop.Post (run-loop-returns t) (run-loop-add-range-at t) (run-loop-range-at-requires t) (run-loop-enum-known-number t) (run-loop-enum-known-first t) (run-loop-sub-rounds t) (run-loop-rounds-requires t) (run-loop-returns-2 t) (run-loop-same-length t) (run-loop-returns-3 t))
++item+items+round+rounds+run-guard+run-loop-spec = close μ-item μ-items μ-round μ-rounds μ-run-guard μ-run-loop (λ t. item-lts.spec (item-claims t) (item-at t) item.Post (item-statement-requires t) (item-run-loop-requires t) (item-run-guard-requires t) (item-same-length t) (item-returns t) (item-same-length-2 t) (item-returns-2 t) (item-same-length-3 t) (item-returns-3 t) (item-returns-4 t)) (λ t. items-lts.spec (items-claims t) (items-at t) items.Post items-Inv-loop items-μ-loop (items-loop-holds t) (items-shared-slice-read-code t) (items-add-t27 t) (items-same-length t) (items-returns t) (items-item-requires t) (items-enum-known-number t) (items-same-length-2 t) (items-returns-2 t) (items-enum-known-next t) (items-same-length-3 t) (items-returns-3 t) (items-loop-less t) (items-loop-again t) (items-same-length-4 t) (items-returns-4 t)) (λ t. round-lts.spec (round-claims t) (round-at t) round.Post (round-returns t) (round-shared-slice-read-if3 t) (round-add-t20 t) (round-add-t21 t) (round-returns-2 t) (round-inner-indices-requires t) (round-add-items t) (round-add-items-2 t) (round-items-requires t) (round-same-length t) (round-returns-3 t)) (λ t. rounds-lts.spec (rounds-claims t) (rounds-at t) rounds.Post rounds-Inv-loop rounds-μ-loop (rounds-cast-end t) (rounds-cast-by t) (rounds-cast-index t) (rounds-loop-holds t) (rounds-goes-on-requires t) (rounds-cast-round t) (rounds-round-requires t) (rounds-enum-known-number t) (rounds-same-length t) (rounds-returns t) (rounds-enum-known-next t) (rounds-add-index t) (rounds-loop-less t) (rounds-loop-again t) (rounds-add-passed t) (rounds-passed-requires t) (rounds-same-length-2 t) (rounds-returns-2 t) (rounds-same-length-3 t) (rounds-returns-3 t)) (λ t. run-guard-lts.spec (run-guard-claims t) (run-guard-at t) run-guard.Post (run-guard-returns t) (run-guard-add-value-at t) (run-guard-value-at-requires t) (run-guard-enum-known-number t) (run-guard-enum-known-value t) (run-guard-sub-passed t) (run-guard-passed-requires t) (run-guard-returns-2 t) (run-guard-sub-items t) (run-guard-items-requires t) (run-guard-returns-3 t) (run-guard-same-length t) (run-guard-returns-4 t)) (λ t. run-loop-lts.spec (run-loop-claims t) (run-loop-at t) run-loop.Post (run-loop-returns t) (run-loop-add-range-at t) (run-loop-range-at-requires t) (run-loop-enum-known-number t) (run-loop-enum-known-first t) (run-loop-sub-rounds t) (run-loop-rounds-requires t) (run-loop-returns-2 t) (run-loop-same-length t) (run-loop-returns-3 t))

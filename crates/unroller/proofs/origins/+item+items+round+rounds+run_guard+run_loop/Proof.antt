@@ -3,6 +3,7 @@ use borrow.Author.Needs.{needs, sfits-of}
 use native.Mathlib.Omega.{arith}
 use mathlib.Core.Path.{_≡_, refl, sym, _∙_, subst}
 use mathlib.Core.Bool.{true, false}
+use mathlib.Core.List.{List}
 use Prim.Native.Nat.{ℕ, _+_, _-_, _*_, _<_}
 use lib.ListN.{length}
 use lib.IntN.{ℤ, pos, _+ℤ_}
@@ -42,6 +43,7 @@ use Rattle.unroller.proofs.forms.value_at.Reads as value-at-reads
 use Rattle.unroller.proofs.items.range_at.Reads as range-at-reads
 use Rattle.unroller.proofs.origins.passed.Reads as passed-reads
 use Rattle.unroller.proofs.origins.statement.Reads as statement-reads
+use Rattle.unroller.proofs.walk.inner_indices.Reads as inner-indices-reads
 use Rattle.unroller.proofs.origins.+item+items+round+rounds+run_guard+run_loop.{statement}
 use Rattle.unroller.proofs.origins.+item+items+round+rounds+run_guard+run_loop.Tie.{close}
 
@@ -127,7 +129,7 @@ abbrev items-claims : ℕ → items-lts.Claims
 items-claims t = (item-below t, item.Post)
 
 abbrev round-claims : ℕ → round-lts.Claims
-round-claims t = (items-below t, items.Post)
+round-claims t = (inner-indices-reads.Asked, inner-indices-reads.Learnt, items-below t, items.Post)
 
 abbrev rounds-claims : ℕ → rounds-lts.Claims
 rounds-claims t = (goes-on-reads.Asked, goes-on-reads.Learnt, round-below t, round.Post, passed-reads.Asked, passed-reads.Learnt)
@@ -196,11 +198,8 @@ module _ (t : ℕ) where
   round-returns : round-lts.Need-returns (round-claims t) (round-at t) round.Post
   round-returns c = let a = c .before .before .before .before .args in let s = a .program .now in let t = tablesIn (a .tables .now) in round-empty s (a .body) t (a .left) (a .loops) (a .indices) (a .array) (a .cell) (a .index) (held (a .last .now) (a .values .now)) (omega (arith, c .if2 .taken))
 
-  round-mul-inner : round-lts.Need-mul-inner (round-claims t) (round-at t) round.Post
-  round-mul-inner c = search needs
-
-  round-array-set-from-inner : round-lts.Need-array-set-from-inner (round-claims t) (round-at t) round.Post
-  round-array-set-from-inner c = omega arith
+  round-inner-indices-requires : round-lts.Need-inner-indices-requires (round-claims t) (round-at t) round.Post
+  round-inner-indices-requires c κs = omega arith
 
   round-add-items : round-lts.Need-add-items (round-claims t) (round-at t) round.Post
   round-add-items c = omega arith
@@ -209,7 +208,7 @@ module _ (t : ℕ) where
   round-items-requires c κs = omega arith
 
   round-returns-2 : round-lts.Need-returns-2 (round-claims t) (round-at t) round.Post
-  round-returns-2 c = let a = c .before .before .before .before .before .args in let s = a .program .now in let t = tablesIn (a .tables .now) in subst (λ (z : ℤ). TracesRound s (a .body) t (a .left) (a .loops) (a .indices) z (a .array) (a .cell) (held (a .last .now) (a .values .now)) (c .items .result) (held (c .items .last .1 .1 .1 .1 .1 .1 .1 .1 .0) (c .items .last .1 .1 .1 .1 .1 .1 .1 .1 .1 .0))) (toZ-ofZ (c .before .before .before .before .before .fits .index)) (round-runs s (a .body) t (a .left) (a .loops) (a .indices) (a .array) (a .cell) (toZ w16 (ofZ w16 (a .index))) (held (a .last .now) (a .values .now)) (c .items .result) (held (c .items .last .1 .1 .1 .1 .1 .1 .1 .1 .0) (c .items .last .1 .1 .1 .1 .1 .1 .1 .1 .1 .0)) (c .items .ensures))
+  round-returns-2 c = let a = c .before .before .before .before .before .before .args in let s = a .program .now in let t = tablesIn (a .tables .now) in subst (λ (z : ℤ). TracesRound s (a .body) t (a .left) (a .loops) (a .indices) z (a .array) (a .cell) (held (a .last .now) (a .values .now)) (c .items .result) (held (c .items .last .1 .1 .1 .1 .1 .1 .1 .1 .0) (c .items .last .1 .1 .1 .1 .1 .1 .1 .1 .1 .0))) (toZ-ofZ (c .before .before .before .before .before .before .fits .index)) (round-runs s (a .body) t (a .left) (a .loops) (a .indices) (a .array) (a .cell) (toZ w16 (ofZ w16 (a .index))) (held (a .last .now) (a .values .now)) (c .items .result) (held (c .items .last .1 .1 .1 .1 .1 .1 .1 .1 .0) (c .items .last .1 .1 .1 .1 .1 .1 .1 .1 .1 .0)) (subst (λ (l : List ℤ). TracesItems s (a .body) t (a .left) (a .loops + 1) l (a .array) (a .cell) (held (a .last .now) (a .values .now)) (c .items .result) (held (c .items .last .1 .1 .1 .1 .1 .1 .1 .1 .0) (c .items .last .1 .1 .1 .1 .1 .1 .1 .1 .1 .0))) (c .before .before .before .inner-indices .ensures) (c .items .ensures)))
 
   rounds-cast-end : rounds-lts.Need-cast-end (rounds-claims t) (rounds-at t) rounds.Post rounds-Inv-loop rounds-μ-loop
   rounds-cast-end c = widens (c .before .fits .final-index) w32 tt
@@ -321,7 +320,7 @@ pub +item+items+round+rounds+run-guard+run-loop-spec : {M : Type 1} → statemen
     close μ-item μ-items μ-round μ-rounds μ-run-guard μ-run-loop
     (λ t. item-lts.spec (item-claims t) (item-at t) item.Post (item-statement-requires t) (item-run-loop-requires t) (item-run-guard-requires t) (item-returns t) (item-returns-2 t) (item-returns-3 t) (item-returns-4 t))
     (λ t. items-lts.spec (items-claims t) (items-at t) items.Post items-Inv-loop items-μ-loop (items-loop-holds t) (items-shared-slice-read-code t) (items-add-result t) (items-returns t) (items-item-requires t) (items-returns-2 t) (items-loop-less t) (items-loop-again t) (items-returns-3 t))
-    (λ t. round-lts.spec (round-claims t) (round-at t) round.Post (round-shared-slice-read-if2 t) (round-add-result t) (round-returns t) (round-mul-inner t) (round-array-set-from-inner t) (round-add-items t) (round-items-requires t) (round-returns-2 t))
+    (λ t. round-lts.spec (round-claims t) (round-at t) round.Post (round-shared-slice-read-if2 t) (round-add-result t) (round-returns t) (round-inner-indices-requires t) (round-add-items t) (round-items-requires t) (round-returns-2 t))
     (λ t. rounds-lts.spec (rounds-claims t) (rounds-at t) rounds.Post rounds-Inv-loop rounds-μ-loop (rounds-cast-end t) (rounds-cast-by t) (rounds-cast-index t) (rounds-loop-holds t) (rounds-goes-on-requires t) (rounds-cast-round t) (rounds-round-requires t) (rounds-add-index t) (rounds-loop-less t) (rounds-loop-again t) (rounds-add-passed t) (rounds-passed-requires t) (rounds-returns t) (rounds-returns-2 t))
     (λ t. run-guard-lts.spec (run-guard-claims t) (run-guard-at t) run-guard.Post (run-guard-returns t) (run-guard-add-value-at t) (run-guard-value-at-requires t) (run-guard-enum-told t) (run-guard-enum-known-value t) (run-guard-sub-passed t) (run-guard-passed-requires t) (run-guard-returns-2 t) (run-guard-sub-items t) (run-guard-items-requires t) (run-guard-returns-3 t) (run-guard-returns-4 t))
     (λ t. run-loop-lts.spec (run-loop-claims t) (run-loop-at t) run-loop.Post (run-loop-returns t) (run-loop-add-range-at t) (run-loop-range-at-requires t) (run-loop-enum-told t) (run-loop-enum-known-first t) (run-loop-sub-rounds t) (run-loop-rounds-requires t) (run-loop-returns-2 t) (run-loop-returns-3 t))
