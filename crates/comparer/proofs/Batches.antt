@@ -8,9 +8,10 @@ use lib.ListN.{length, getD, take, drop, length-append, length-take, length-map}
 use lib.Seq.{take-append-seam, drop-append-seam, drop-at, take-take, take-all, take-nil, drop-nil}
 use lib.Dec.{leb}
 use borrow.Author.Tests.{leb-true, leb-false, le-leb, lt-leb}
-use Rattle.model.specs.Test.{total}
+use Rattle.model.specs.Test.{if_then_else_, total}
 use Rattle.model.specs.Tables.{Array, Tables, cells}
-use Rattle.model.specs.Reply.{Reply, Side, equal, differs, refused, input, isRefused}
+use Rattle.model.specs.Reply.{Reply, Side, equal, differs, refused, left, right, input, isRefused}
+use Rattle.reader.specs.Field.{littleEndian}
 use Rattle.unroller.proofs.Parts.{room}
 use Rattle.unroller.proofs.Runs.{unrolls}
 use Rattle.comparer.specs.Match.{compared, comparedSize}
@@ -18,11 +19,12 @@ use Rattle.comparer.specs.Entry.{programsReply, allBits}
 use Rattle.comparer.specs.Line.{lineOf}
 use Rattle.comparer.specs.Batch.{Lengths, ended, last, sizes, sized, lengthsOf, Pair, whole, broken, bodyOf, followed, pairsBy, pairs, mostPairs, begun, replyOf, replies, oneEqual, oneDiffers, oneRefused, elementsOf, totalsLine, text}
 use Rattle.comparer.specs.BatchSteps.{noTotals, counted, answered, turn, turns, lookedBy, looked}
-use Rattle.comparer.specs.Claims.{equalCounts, BatchSummed, BatchSteps, framedPair, BatchFirst, BatchLast, BatchCut, BatchBound, Demand2Batch}
+use Rattle.comparer.specs.Claims.{equalCounts, BatchSummed, BatchSteps, framedPair, BatchFirst, BatchLast, BatchCut, BatchBound, Demand2Batch, Numbered, BatchNumbers}
 use Rattle.comparer.specs.declared.batch.Totals.{Totals}
 use Rattle.comparer.proofs.BatchLaws.{left-long, right-long, both-fit, no-byte, few-bytes, four-bytes}
 use Rattle.comparer.proofs.Theorems.{demand2-programs}
 use Rattle.comparer.proofs.Plain.{program-tables}
+use Rattle.comparer.proofs.Questions.{program-numbers}
 
 -- ---- E + D + R, and C
 
@@ -38,25 +40,56 @@ kinds (x ∷ rs) =
     let o = one-kind x in
     omega arith
 
+-- a pair that its lengths, or bytes that are cut, refuse: 2 of a side, 1 of the input
+abbrev Last : Lengths → Type 0
+Last ended = Unit {0}
+Last (last side number) = Numbered (refused side number 0)
+Last (sizes l r) = Unit {0}
+
+last-if : (b : Bool) (x y : Lengths) → Last x → Last y → Last (if b then x else y)
+last-if true x y h k = h
+last-if false x y h k = k
+
+lengths-last : (s : List ℕ) → Last (lengthsOf s)
+unfolding lengthsOf
+lengths-last [] = tt
+lengths-last (b ∷ s) =
+    let l : ℕ = littleEndian 2 (b ∷ s) 0 in
+    let r : ℕ = littleEndian 2 (b ∷ s) 2 in
+    last-if (leb 4 (length (b ∷ s))) (sized l r) (last input 1)
+    (last-if (leb l 16384) _ (last left 2) (last-if (leb r 16384) (sizes l r) (last right 2) tt (omega arith, omega arith)) (omega arith, omega arith)) (refl, refl)
+
+abbrev Broken : Pair → Type 0
+Broken (whole l r) = Unit {0}
+Broken (broken side number) = Numbered (refused side number 0)
+
+body-last : (l r : ℕ) (s : List ℕ) → Broken (bodyOf l r s)
+body-last l r s = by (leb (l + r) (length s))
+  where
+    by : (b : Bool) → Broken (if b then whole (take l s) (take r (drop l s)) else broken input 1)
+    by true = tt
+    by false = (refl, refl)
+
 -- what holds of no pair, of a broken one and of a whole one in front of others holds of the pairs that are begun
-module _ (P : ℕ → List Pair → Type 0) (none : (n : ℕ) → P n []) (one : (n : ℕ) (side : Side) (number : ℕ) → P (suc n) (broken side number ∷ []))
+module _ (P : ℕ → List Pair → Type 0) (none : (n : ℕ) → P n [])
+    (one : (n : ℕ) (side : Side) (number : ℕ) → Numbered (refused side number 0) → P (suc n) (broken side number ∷ []))
     (more : (n : ℕ) (l r : List ℕ) (ps : List Pair) → P n ps → P (suc n) (whole l r ∷ ps)) where
   pairs-by : (n : ℕ) (s : List ℕ) → P n (pairs n s)
   unfolding pairs
   pairs-by zero s = none zero
-  pairs-by (suc n) s = by (lengthsOf s) (drop 4 s) (λ rest. pairs-by n rest)
+  pairs-by (suc n) s = by (lengthsOf s) (drop 4 s) (lengths-last s) (λ rest. pairs-by n rest)
     where
-      after : (p : Pair) (rest : List ℕ) → P n (pairs n rest) → P (suc n) (followed p (pairs n) rest)
-      after (whole l r) rest h = more n l r (pairs n rest) h
-      after (broken side number) rest h = one n side number
+      after : (p : Pair) (rest : List ℕ) → Broken p → P n (pairs n rest) → P (suc n) (followed p (pairs n) rest)
+      after (whole l r) rest k h = more n l r (pairs n rest) h
+      after (broken side number) rest k h = one n side number k
 
-      by : (x : Lengths) (t : List ℕ) → ((rest : List ℕ) → P n (pairs n rest)) → P (suc n) (pairsBy x (pairs n) t)
-      by ended t h = none (suc n)
-      by (last side number) t h = one n side number
-      by (sizes l r) t h = after (bodyOf l r t) (drop (l + r) t) (h (drop (l + r) t))
+      by : (x : Lengths) (t : List ℕ) → Last x → ((rest : List ℕ) → P n (pairs n rest)) → P (suc n) (pairsBy x (pairs n) t)
+      by ended t k h = none (suc n)
+      by (last side number) t k h = one n side number k
+      by (sizes l r) t k h = after (bodyOf l r t) (drop (l + r) t) (body-last l r t) (h (drop (l + r) t))
 
 pairs-most : (n : ℕ) (s : List ℕ) → length (pairs n s) ≤ n
-pairs-most = pairs-by (λ n ps. length ps ≤ n) (λ n. omega arith) (λ n side number. omega arith) (λ n l r ps h. omega arith)
+pairs-most = pairs-by (λ n ps. length ps ≤ n) (λ n. omega arith) (λ n side number k. omega arith) (λ n l r ps h. omega arith)
 
 equals-are : (rs : List Reply) → total oneEqual rs ≡ length (equalCounts rs)
 equals-are [] = refl
@@ -356,10 +389,28 @@ last-of-more l r ps h [] later side number e = absurd (let z : _≡_ {A = ℕ} 0
 last-of-more l r ps h (x ∷ xs) later side number e = h xs later side number cc
 
 pub batch-last : BatchLast
-batch-last = pairs-by (λ n ps. LastOnly ps) (λ n. last-of-none) (λ n side number. last-of-one side number) (λ n l r ps h. last-of-more l r ps h) mostPairs
+batch-last = pairs-by (λ n ps. LastOnly ps) (λ n. last-of-none) (λ n side number k. last-of-one side number) (λ n l r ps h. last-of-more l r ps h) mostPairs
 
 -- ---- a reply that is no refusal
 
 pub demand2-batch : Demand2Batch
 demand2-batch s earlier later (whole l r) e h = record { one = l; other = r; isPair = refl; told = demand2-programs allBits l r h }
 demand2-batch s earlier later (broken side number) e h = absurd (false≢true (sym h))
+
+-- ---- the numbers of all replies
+
+abbrev AllNumbered : List Pair → Type 0
+AllNumbered ps = (earlier later : List Pair) (p : Pair) → ps ≡ earlier ++ p ∷ later → Numbered (replyOf p)
+
+numbered-none : AllNumbered []
+numbered-none [] later p e = absurd (let z : _≡_ {A = ℕ} 0 1 = cc in omega arith)
+numbered-none (x ∷ xs) later p e = absurd (let z : _≡_ {A = ℕ} 0 1 = cc in omega arith)
+
+numbered-more : (q : Pair) (ps : List Pair) → Numbered (replyOf q) → AllNumbered ps → AllNumbered (q ∷ ps)
+numbered-more q ps k h [] later p e = let z : q ≡ p = cc in subst (λ (x : Pair). Numbered (replyOf x)) z k
+numbered-more q ps k h (x ∷ xs) later p e = h xs later p cc
+
+pub batch-numbers : BatchNumbers
+batch-numbers =
+    pairs-by (λ n ps. AllNumbered ps) (λ n. numbered-none) (λ n side number k. numbered-more (broken side number) [] k numbered-none)
+    (λ n l r ps h. numbered-more (whole l r) ps (program-numbers (λ x. allBits) l r) h) mostPairs

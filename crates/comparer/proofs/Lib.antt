@@ -13,6 +13,7 @@ pub mod Itself
 pub mod Outs
 pub mod Plain
 pub mod Input
+pub mod Questions
 pub mod Batches
 pub mod Table
 pub mod Examples

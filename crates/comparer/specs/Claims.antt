@@ -13,7 +13,7 @@ use Rattle.model.specs.Test.{every, total}
 use Rattle.model.specs.Tables.{Array}
 use Rattle.model.specs.Update.{Tree, Listed, written}
 use Rattle.model.specs.Update.Tree.{cell}
-use Rattle.model.specs.Reply.{Reply, equal, differs, refused, isRefused, Side, left, right, both}
+use Rattle.model.specs.Reply.{Reply, equal, differs, refused, isRefused, Side, left, right, both, input}
 use Rattle.reader.specs.Field.{got}
 use Rattle.reader.specs.Syntax.{Form, Program}
 use Rattle.reader.specs.Grammar.{readProgram}
@@ -30,7 +30,7 @@ use Rattle.unroller.specs.Executed.{Origin}
 use Rattle.unroller.specs.Traced.{Traced, WrittenAt}
 use Rattle.comparer.specs.Meaning.{Meaning, Respects, Content, valueOf, after, free, values}
 use Rattle.comparer.specs.Match.{comparedSize, swapping, given, listsReply}
-use Rattle.comparer.specs.Entry.{enough, entryReply, wordsReply, sideReply, programsBy, programsReply, allBits, outMask, plainReply, leftIn, rightIn, inputMasked, inputReply}
+use Rattle.comparer.specs.Entry.{enough, entryReply, wordsReply, sideReply, programsBy, programsReply, allBits, outMask, plainReply, leftIn, rightIn, inputBy, inputMasked, inputReply}
 use Rattle.comparer.specs.Explain as Explain
 use Rattle.comparer.specs.Explain.{Chosen, chosen, Explanation, plain, explained, explanation, inputMaskedExplanation, inputExplanation}
 use Rattle.comparer.specs.Batch as Batch
@@ -388,3 +388,24 @@ pub record ToldPair (p : Pair) : Type 1 where
 
 abbrev pub Demand2Batch : Type 1
 Demand2Batch = (s : List ℕ) (earlier later : List Pair) (p : Pair) → begun s ≡ earlier ++ p ∷ later → isRefused (replyOf p) ≡ false → ToldPair p
+
+-- The numbers that a refusal of programs can have: 2 to 20 of one side, 22 to 24 of both, 1 of the input, at place 0.
+abbrev pub Numbered : Reply → Type 0
+Numbered (equal n) = Unit {0}
+Numbered (differs a e) = Unit {0}
+Numbered (refused left k p) = (2 ≤ k) × (k ≤ 20)
+Numbered (refused right k p) = (2 ≤ k) × (k ≤ 20)
+Numbered (refused both k p) = (22 ≤ k) × (k ≤ 24)
+Numbered (refused input k p) = (k ≡ 1) × (p ≡ 0)
+
+-- No reply to two programs has another, whatever is compared: never 21, 25 or 26.
+abbrev pub ProgramNumbers : Type 0
+ProgramNumbers = (mask : Listed → ℕ) (one other : List ℕ) → Numbered (programsBy mask one other)
+
+-- The same of framed input,
+abbrev pub InputNumbers : Type 0
+InputNumbers = (mask : Listed → ℕ) (s : List ℕ) → Numbered (inputBy mask s)
+
+-- and of each of many pairs.
+abbrev pub BatchNumbers : Type 0
+BatchNumbers = (s : List ℕ) (earlier later : List Pair) (p : Pair) → begun s ≡ earlier ++ p ∷ later → Numbered (replyOf p)

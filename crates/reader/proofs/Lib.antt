@@ -16,3 +16,4 @@ pub mod Stores
 pub mod Flattened
 pub mod Whole
 pub mod Laws
+pub mod Questions

@@ -7,6 +7,7 @@ mod Sums
 pub mod Fits
 pub mod Accepted
 pub mod Question21
+pub mod Questions
 pub mod Values
 pub mod Stands
 mod Indices
