@@ -1,19 +1,24 @@
 -- The claims of specs/Carried.antt.
-use Prim.Native.Nat.{ℕ}
-use mathlib.Core.Path.{_≡_, sym, ap, _∙_, subst}
-use mathlib.Core.Bool.{Bool, false}
+use Prim.Native.Nat.{ℕ, _+_}
+use mathlib.Core.Path.{_≡_, refl, sym, ap, _∙_, subst}
+use mathlib.Core.Bool.{Bool, true, false, true≢false}
 use mathlib.Core.List.{List, _∷_, map, List·Memᴰ, List·Memᴰ·head, List·Memᴰ·tail}
+use lib.ListN.{length, take, drop}
+use lib.Dec.{leb}
 use Rattle.model.specs.Update.{Listed}
 use Rattle.model.specs.Reply as model
 use Rattle.model.specs.Reply.{isRefused, equal}
-use Rattle.comparer.specs.Entry.{entryReply, programsReply, plainReply, leftIn, rightIn, inputMasked, inputReply}
+use Rattle.unroller.specs.Run.{ok}
+use Rattle.unroller.specs.Unroll.{unrolled}
+use Rattle.comparer.specs.Entry.{entryReply, programsReply, allBits, plainReply, leftIn, rightIn, inputMasked, inputReply}
+use Rattle.comparer.specs.BatchSteps.{bodyReply}
 use Rattle.comparer.specs.Line.{lineOf}
 use Rattle.comparer.specs.Rows.{Row, framed, starred}
 use Rattle.comparer.specs.Told.{Told, ToldOut}
 use Rattle.comparer.specs.Claims.{ToldOf, Beside}
 use Rattle.comparer.specs.Answers.{replySays}
 use Rattle.comparer.specs.declared.reply.Reply.{Reply}
-use Rattle.comparer.specs.Carried.{ListsAnswered, ProgramsAnswered, PlainAnswered, ReorderedAnswered, BesideAnswered, InputAnswered, MaskedAnswered, EqualAnswered, StarredAnswered}
+use Rattle.comparer.specs.Carried.{ListsAnswered, ProgramsAnswered, PlainAnswered, ReorderedAnswered, BesideAnswered, InputAnswered, MaskedAnswered, PairAnswered, EqualAnswered, StarredAnswered}
 use Rattle.comparer.proofs.Theorems.{entered, demand2-words, demand2-programs, demand3}
 use Rattle.comparer.proofs.Itself.{beside-itself-words}
 use Rattle.comparer.proofs.Plain.{demand2-plain}
@@ -53,6 +58,18 @@ input-answered long s = answered ToldOut _ (leftIn s) (rightIn s) (inputReply s)
 
 pub masked-answered : MaskedAnswered
 masked-answered long mask s = answered (Told mask) _ (leftIn s) (rightIn s) (inputMasked mask s) (demand2-masked mask s) long
+
+-- the reply to the bytes behind the lengths of a pair
+body-told : (l r : ℕ) (s : List ℕ) → isRefused (bodyReply l r s) ≡ false → ToldOf (Told allBits) (λ p q. unrolled p ≡ ok q) (take l s) (take r (drop l s)) (bodyReply l r s)
+body-told l r s n = by (leb (l + r) (length s)) refl n
+  where
+    by : (b : Bool) → leb (l + r) (length s) ≡ b → isRefused (bodyReply l r s) ≡ false
+        → ToldOf (Told allBits) (λ p q. unrolled p ≡ ok q) (take l s) (take r (drop l s)) (bodyReply l r s)
+    by true e n = rw e (demand2-programs allBits (take l s) (take r (drop l s)) (rw e at n))
+    by false e n = absurd (true≢false (rw e at n))
+
+pub pair-answered : PairAnswered
+pair-answered long l r s = answered (Told allBits) _ (take l s) (take r (drop l s)) (bodyReply l r s) (body-told l r s) long
 
 pub equal-answered : EqualAnswered
 equal-answered long s r n e f =

@@ -4,7 +4,7 @@ use mathlib.Core.Path.{_≡_}
 use mathlib.Core.List.{List, [], List·Memᴰ}
 use mathlib.Core.Bool.{Bool, true, false}
 use mathlib.Core.Option.{some}
-use lib.ListN.{length, take}
+use lib.ListN.{length, take, drop}
 use denote.Ref.{RefT, now}
 use Rattle.model.specs.Update.{Listed}
 use Rattle.model.specs.Reply.{isRefused, differs}
@@ -14,7 +14,8 @@ use Rattle.unroller.specs.Decode.{decode}
 use Rattle.unroller.specs.Unroll.{unrolled}
 use Rattle.unroller.specs.Executed.{Origin}
 use Rattle.unroller.specs.Traced.{stretchOf, WrittenAt}
-use Rattle.comparer.specs.Entry.{enough, entryReply, wordsReply, programsReply, plainReply, leftIn, rightIn, inputMasked, inputReply}
+use Rattle.comparer.specs.Entry.{enough, entryReply, wordsReply, programsReply, allBits, plainReply, leftIn, rightIn, inputMasked, inputReply}
+use Rattle.comparer.specs.BatchSteps.{bodyReply}
 use Rattle.comparer.specs.Explain.{explanation}
 use Rattle.comparer.specs.Line.{lineOf}
 use Rattle.comparer.specs.Writing.{Holds}
@@ -75,6 +76,12 @@ abbrev pub MaskedAnswered : Type 1
 MaskedAnswered =
     (long : Bool) (mask : ℕ) (s : List ℕ) (r : Reply) → replySays r ≡ entryReply long (inputMasked mask s) → isRefused (replySays r) ≡ false
     → ToldOf (Told mask) (λ p l. unrolled p ≡ ok l) (leftIn s) (rightIn s) (replySays r)
+
+-- Demand 2, for what `compare_pair` answers: over all out and inout arrays of the two programs behind the lengths l and r.
+abbrev pub PairAnswered : Type 1
+PairAnswered =
+    (long : Bool) (l r : ℕ) (s : List ℕ) (x : Reply) → replySays x ≡ entryReply long (bodyReply l r s) → isRefused (replySays x) ≡ false
+    → ToldOf (Told allBits) (λ p q. unrolled p ≡ ok q) (take l s) (take r (drop l s)) (replySays x)
 
 -- An "equal" of `compare_input` implies equal values for every content and every meaning that respects the marks.
 abbrev pub EqualAnswered : Type 1
