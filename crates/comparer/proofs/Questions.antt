@@ -37,9 +37,10 @@ difference-numbered mask a (x ∷ xs) agree otherwise h =
 table-numbered : {A : Type 0} (equals : A → A → Bool) (question : ℕ) (agreed : model.Reply) → (22 ≤ question) × (question ≤ 24) → Numbered agreed
     → (k : ℕ) (xs ys : List A) → Numbered (sameTable equals question agreed k xs ys)
 table-numbered equals question agreed q h k [] [] = h
-table-numbered equals question agreed q h k [] (y ∷ ys) = q
-table-numbered equals question agreed q h k (x ∷ xs) [] = q
-table-numbered equals question agreed q h k (x ∷ xs) (y ∷ ys) = numbered-cond (equals x y) _ (model.refused model.both question k) (table-numbered equals question agreed q h (suc k) xs ys) q
+table-numbered equals question agreed q h k [] (y ∷ ys) = (omega (arith, q .0), omega (arith, q .1))
+table-numbered equals question agreed q h k (x ∷ xs) [] = (omega (arith, q .0), omega (arith, q .1))
+table-numbered equals question agreed q h k (x ∷ xs) (y ∷ ys) = numbered-cond (equals x y) _ (model.refused model.both question k) (table-numbered equals question agreed q h (suc k) xs ys)
+    (omega (arith, q .0), omega (arith, q .1))
 
 matched-numbered : (mask : ℕ) (l r : Listed) → Numbered (matched mask l r)
 matched-numbered mask l r =
@@ -55,11 +56,11 @@ lists-numbered mask l r =
 
 left-numbered : (m : Ran Listed) (next : Listed → model.Reply) → ProgramNumbered m → ((l : Listed) → Numbered (next l)) → Numbered (sideReply model.left m next)
 left-numbered (ok l) next h k = k l
-left-numbered (stop question place) next h k = h
+left-numbered (stop question place) next h k = (omega (arith, h .0), omega (arith, h .1))
 
 right-numbered : (m : Ran Listed) (next : Listed → model.Reply) → ProgramNumbered m → ((l : Listed) → Numbered (next l)) → Numbered (sideReply model.right m next)
 right-numbered (ok l) next h k = k l
-right-numbered (stop question place) next h k = h
+right-numbered (stop question place) next h k = (omega (arith, h .0), omega (arith, h .1))
 
 pub program-numbers : ProgramNumbers
 unfolding programsBy
