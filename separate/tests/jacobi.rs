@@ -1,5 +1,5 @@
-//! Source document 003: one-dimensional Jacobi, 16 points, two time steps. Both
-//! arrays are inout, so all bits of the mask are set.
+//! One-dimensional Jacobi, 16 points, two time steps. Both arrays are inout, so all
+//! bits of the mask are set.
 
 mod common;
 use common::{asm, line_all_of_texts, line_of_texts};
@@ -8,8 +8,8 @@ use separate::list::{decode, Record};
 use separate::read::read_program;
 use separate::run::{run, Counts};
 
-/// Figure 1. The sum of three is two binary sums, and the factor a constant:
-/// seven nodes for each B, one for each A.
+/// As it is written first. The sum of three is two binary sums, and the factor a
+/// constant: seven nodes for each B, one for each A.
 const ORIGINAL: &str = "
 op add/2
 op mul/2
@@ -25,9 +25,9 @@ for t = 0 to 1 {
 }
 ";
 
-/// Figure 2, tile_8.1.1. A test of parity is a loop over the odd numbers that
-/// come into question; the limits of c2, which the figure works out with
-/// divisions, are two guards.
+/// Skewed, so that both time steps go through the points together. A test of
+/// parity is a loop over the odd numbers that come into question; the limits of c2,
+/// which a tiling tool works out with divisions, are two guards.
 const TILED: &str = "
 op add/2
 op mul/2
@@ -84,9 +84,8 @@ fn plainly_nothing_is_compared() {
     }
 }
 
-/// Figure 3 lists the updates of both columns.
 #[test]
-fn the_updates_come_in_the_order_of_figure_3() {
+fn the_updates_come_in_the_order_that_is_worked_out_by_hand() {
     let (a, b) = (0, 1);
     let (_, original) = unrolled(ORIGINAL);
     assert_eq!(original[0], [1, b, 1]);
