@@ -10,8 +10,7 @@
 #define MOST 16385
 
 static uint8_t left[MOST], right[MOST];
-static uint32_t left_list[TENGMUA_LIST_WORDS], right_list[TENGMUA_LIST_WORDS];
-static uint32_t cells[TENGMUA_CELL_WORDS], terms[TENGMUA_TERM_WORDS];
+static tengmua_work work;
 
 /* Reads a file, up to MOST bytes; -1 if it can't be read. */
 static long read_file(const char *name, uint8_t *bytes) {
@@ -35,8 +34,11 @@ static void print_reply(tengmua_reply reply) {
     case TENGMUA_DIFFERS:
         printf("differs %zu %zu\n", reply.first, reply.second);
         break;
-    default:
+    case TENGMUA_REFUSED:
         printf("refused %s %zu %zu\n", sides[reply.first], reply.second, reply.third);
+        break;
+    default:
+        fprintf(stderr, "no reply: a program lies in the work memory\n");
     }
 }
 
@@ -53,21 +55,16 @@ static void print_explanation(const char *side, tengmua_explanation explanation)
 
 static tengmua_reply compare(int all, size_t left_length, size_t right_length) {
     if (all)
-        return tengmua_compare_programs(left, left_length, right, right_length, TENGMUA_ALL,
-                                        left_list, TENGMUA_LIST_WORDS, right_list, TENGMUA_LIST_WORDS,
-                                        cells, TENGMUA_CELL_WORDS, terms, TENGMUA_TERM_WORDS);
-    return tengmua_compare_plain(left, left_length, right, right_length,
-                                 left_list, TENGMUA_LIST_WORDS, right_list, TENGMUA_LIST_WORDS,
-                                 cells, TENGMUA_CELL_WORDS, terms, TENGMUA_TERM_WORDS);
+        return tengmua_work_programs(&work, left, left_length, right, right_length, TENGMUA_ALL);
+    return tengmua_work_plain(&work, left, left_length, right, right_length);
 }
 
 /* Both sides of a difference. The mask of its array alone names the same element, whichever comparison found it. */
 static void explain(size_t array, size_t left_length, size_t right_length) {
+    uint16_t mask = (uint16_t)(1 << array);
     for (size_t side = TENGMUA_LEFT; side <= TENGMUA_RIGHT; side++)
-        print_explanation(side == TENGMUA_LEFT ? "left" : "right", tengmua_explain(
-            left, left_length, right, right_length, (uint16_t)(1 << array), side,
-            left_list, TENGMUA_LIST_WORDS, right_list, TENGMUA_LIST_WORDS,
-            cells, TENGMUA_CELL_WORDS, terms, TENGMUA_TERM_WORDS));
+        print_explanation(side == TENGMUA_LEFT ? "left" : "right",
+                          tengmua_work_explain(&work, left, left_length, right, right_length, mask, side));
 }
 
 int main(int count, char **words) {

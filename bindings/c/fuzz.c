@@ -1,4 +1,5 @@
-/* fuzz COUNT SEED: so many calls of each entry with random bytes and words, beside the separately written checker (libtwin.a).
+/* fuzz COUNT SEED: so many calls of each entry with random bytes and words, and half as many of each function over tengmua_work,
+ * beside the separately written checker (libtwin.a).
  *
  * Build with -fsanitize=address. The library itself is not built so: therefore each slice either stands in memory of its own from
  * malloc, where the sanitizer sees what memcpy and memset touch, or against a page that can't be touched, before it or behind
@@ -133,13 +134,16 @@ static int same_reply(tengmua_reply one, tengmua_reply other) {
     return one.kind == other.kind && one.first == other.first && one.second == other.second && one.third == other.third;
 }
 
-enum entry { PROGRAMS, PLAIN, LISTS, UNROLL, CHECK, EXPLAIN, ENTRIES };
+/* The last four go through tengmua_work. */
+enum entry { PROGRAMS, PLAIN, LISTS, UNROLL, CHECK, EXPLAIN, WORK_PROGRAMS, WORK_PLAIN, WORK_LISTS, WORK_EXPLAIN, ENTRIES };
+
+static const char *const names[] = {"compare_programs", "compare_plain", "compare_lists", "unroll",     "check_list",
+                                    "explain",          "work_programs", "work_plain",    "work_lists", "work_explain"};
 
 /* How often each kind of reply came, for the report: a run that only refuses shows. */
 static size_t kinds[ENTRIES][3];
 
 static void note(enum entry entry, tengmua_reply ours, tengmua_reply theirs, int memory, size_t number) {
-    static const char *const names[] = {"compare_programs", "compare_plain", "compare_lists", "unroll", "check_list"};
     if (!same_reply(ours, theirs) || !memory) {
         printf("%s, call %zu: ours %zu %zu %zu %zu, separate %zu %zu %zu %zu, memory %s\n", names[entry], number, ours.kind,
                ours.first, ours.second, ours.third, theirs.kind, theirs.first, theirs.second, theirs.third,
@@ -165,15 +169,15 @@ static void print_explanation(const char *who, const tengmua_explanation *e) {
     printf("\n");
 }
 
-static void note_explanation(tengmua_explanation ours, tengmua_explanation theirs, int memory, size_t number) {
+static void note_explanation(enum entry entry, tengmua_explanation ours, tengmua_explanation theirs, int memory, size_t number) {
     if (!same_explanation(&ours, &theirs) || !memory) {
-        printf("explain, call %zu, memory %s:\n", number, memory ? "alike" : "not alike");
+        printf("%s, call %zu, memory %s:\n", names[entry], number, memory ? "alike" : "not alike");
         print_explanation("ours", &ours);
         print_explanation("separate", &theirs);
         exit(1);
     }
     must(ours.kind < 3, "no such kind");
-    kinds[EXPLAIN][ours.kind]++;
+    kinds[entry][ours.kind]++;
 }
 
 static uint8_t left_bytes[MOST_BYTES], right_bytes[MOST_BYTES];
@@ -316,7 +320,84 @@ static void call_explain(size_t number) {
     int memory = alike(a) & alike(b) & alike(c) & alike(d);
     give_back(left);
     give_back(right);
-    note_explanation(ours, theirs, memory, number);
+    note_explanation(EXPLAIN, ours, theirs, memory, number);
+}
+
+/* Work memory in one piece, with garbage; the other checker's has the same. */
+static tengmua_work others;
+
+static slice garbage_work(void) {
+    slice s = lend(sizeof others);
+    for (size_t i = 0; i < s.bytes / 4; i++)
+        ((uint32_t *)s.data)[i] = (uint32_t)draw();
+    memcpy(&others, s.data, s.bytes);
+    return s;
+}
+
+static int work_alike(slice s) {
+    int same = memcmp(s.data, &others, s.bytes) == 0;
+    give_back(s);
+    return same;
+}
+
+static void call_work_lists(size_t number) {
+    make_lists();
+    slice left = copied(left_words, 4 * lengths[0]), right = copied(right_words, 4 * lengths[1]), work = garbage_work();
+    uint16_t mask = any_mask();
+    tengmua_reply ours = tengmua_work_lists(work.data, left.data, lengths[0], right.data, lengths[1], mask);
+    tengmua_reply theirs = twin_compare_lists(left.data, lengths[0], right.data, lengths[1], mask, others.cells,
+                                              TENGMUA_CELL_WORDS, others.terms, TENGMUA_TERM_WORDS);
+    int memory = work_alike(work);
+    give_back(left);
+    give_back(right);
+    note(WORK_LISTS, ours, theirs, memory, number);
+}
+
+/* Half of the pairs mostly differ. */
+static void call_work_programs(enum entry entry, size_t number) {
+    make_programs_from(below(2) ? twin_differing : twin_programs, below(3) ? 3 : below(4));
+    slice left = copied(left_bytes, lengths[0]), right = copied(right_bytes, lengths[1]), work = garbage_work();
+    uint16_t mask = any_mask();
+    tengmua_reply ours, theirs;
+    if (entry == WORK_PLAIN) {
+        ours = tengmua_work_plain(work.data, left.data, left.bytes, right.data, right.bytes);
+        theirs = twin_compare_plain(left.data, left.bytes, right.data, right.bytes, others.left_list, TENGMUA_LIST_WORDS,
+                                    others.right_list, TENGMUA_LIST_WORDS, others.cells, TENGMUA_CELL_WORDS, others.terms,
+                                    TENGMUA_TERM_WORDS);
+    } else {
+        ours = tengmua_work_programs(work.data, left.data, left.bytes, right.data, right.bytes, mask);
+        theirs = twin_compare_programs(left.data, left.bytes, right.data, right.bytes, mask, others.left_list,
+                                       TENGMUA_LIST_WORDS, others.right_list, TENGMUA_LIST_WORDS, others.cells,
+                                       TENGMUA_CELL_WORDS, others.terms, TENGMUA_TERM_WORDS);
+    }
+    int memory = work_alike(work);
+    give_back(left);
+    give_back(right);
+    note(entry, ours, theirs, memory, number);
+}
+
+static void call_work_explain(size_t number) {
+    make_programs_from(twin_differing, below(3) ? 3 : below(4));
+    slice left = copied(left_bytes, lengths[0]), right = copied(right_bytes, lengths[1]), work = garbage_work();
+    uint16_t mask = any_mask();
+    size_t side = below(2);
+    tengmua_explanation ours =
+        tengmua_work_explain(work.data, left.data, left.bytes, right.data, right.bytes, mask, side);
+    tengmua_explanation theirs =
+        twin_explain(left.data, left.bytes, right.data, right.bytes, mask, side, others.left_list, TENGMUA_LIST_WORDS,
+                     others.right_list, TENGMUA_LIST_WORDS, others.cells, TENGMUA_CELL_WORDS, others.terms,
+                     TENGMUA_TERM_WORDS);
+    int memory = work_alike(work);
+    give_back(left);
+    give_back(right);
+    note_explanation(WORK_EXPLAIN, ours, theirs, memory, number);
+}
+
+static void call_work(size_t number) {
+    call_work_programs(WORK_PROGRAMS, number);
+    call_work_programs(WORK_PLAIN, number);
+    call_work_lists(number);
+    call_work_explain(number);
 }
 
 int main(int count, char **words) {
@@ -335,13 +416,14 @@ int main(int count, char **words) {
         call_unroll(k);
         call_check(k);
         call_explain(k);
+        if (k % 2 == 0)
+            call_work(k);
     }
-    printf("fuzz %zu, seed %llu: the same replies and memory (equal, differs, refused: programs %zu %zu %zu, plain %zu %zu "
-           "%zu, lists %zu %zu %zu, unroll %zu %zu %zu, check %zu %zu %zu; written, starting content, refused: explain %zu "
-           "%zu %zu)\n",
-           calls, (unsigned long long)seed, kinds[PROGRAMS][0], kinds[PROGRAMS][1], kinds[PROGRAMS][2], kinds[PLAIN][0],
-           kinds[PLAIN][1], kinds[PLAIN][2], kinds[LISTS][0], kinds[LISTS][1], kinds[LISTS][2], kinds[UNROLL][0],
-           kinds[UNROLL][1], kinds[UNROLL][2], kinds[CHECK][0], kinds[CHECK][1], kinds[CHECK][2], kinds[EXPLAIN][0],
-           kinds[EXPLAIN][1], kinds[EXPLAIN][2]);
+    printf("fuzz %zu, seed %llu: the same replies and memory (equal, differs, refused; of explanations written, starting content, "
+           "refused:",
+           calls, (unsigned long long)seed);
+    for (int entry = 0; entry < ENTRIES; entry++)
+        printf(" %s %zu %zu %zu%s", names[entry], kinds[entry][0], kinds[entry][1], kinds[entry][2],
+               entry + 1 < ENTRIES ? "," : ")\n");
     return 0;
 }
