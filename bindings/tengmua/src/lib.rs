@@ -50,7 +50,7 @@
 
 mod raw;
 
-use std::fmt;
+use std::{error, fmt};
 
 /// Words of a list, of `cells` and of `terms`, at least (question 25).
 pub const LIST_WORDS: usize = 32_768;
@@ -71,13 +71,31 @@ pub enum Side {
     Input,
 }
 
-/// A "no" to a question: its number and the place it was asked of.
+/// A "no" to a question: its number and the place it was asked of. As an error it says the question's words too.
 #[derive(Clone, Copy, Debug, PartialEq, Eq)]
 pub struct Refusal {
     pub side: Side,
     pub question: u8,
     pub place: usize,
 }
+
+/// The page that has a row for each question, and what to do about a "no".
+const QUESTIONS: &str = include_str!("../../../docs/QUESTIONS.md");
+
+impl Refusal {
+    /// What was asked, as `docs/QUESTIONS.md` says it; of a number that the page has no row for, nothing.
+    pub fn words(&self) -> Option<&'static str> {
+        let row = format!("| {} | ", self.question);
+        QUESTIONS.lines().find_map(|line| line.strip_prefix(&row)?.split(" | ").next())
+    }
+
+    /// The line of a reply, without its end.
+    fn line(&self, out: &mut fmt::Formatter) -> fmt::Result {
+        write!(out, "refused {} {} {}", self.side, self.question, self.place)
+    }
+}
+
+impl error::Error for Refusal {}
 
 #[derive(Clone, Copy, Debug, PartialEq, Eq)]
 pub enum Reply {
@@ -141,9 +159,12 @@ impl fmt::Display for Side {
     }
 }
 
+/// For a person to read; a reply has its line.
 impl fmt::Display for Refusal {
     fn fmt(&self, out: &mut fmt::Formatter) -> fmt::Result {
-        write!(out, "refused {} {} {}", self.side, self.question, self.place)
+        let Refusal { side, question, place } = self;
+        write!(out, "refused {side} at place {place}, question {question}: ")?;
+        out.write_str(self.words().unwrap_or("see docs/QUESTIONS.md"))
     }
 }
 
@@ -153,7 +174,7 @@ impl fmt::Display for Reply {
         match self {
             Reply::Equal(count) => write!(out, "equal {count}"),
             Reply::Differs(array, cell) => write!(out, "differs {array} {cell}"),
-            Reply::Refused(refusal) => refusal.fmt(out),
+            Reply::Refused(refusal) => refusal.line(out),
         }
     }
 }
@@ -168,7 +189,7 @@ impl fmt::Display for Explanation<'_> {
                 written.indices().iter().try_for_each(|index| write!(out, " {index}"))
             }
             Explanation::Starting { array, cell } => write!(out, "starting {array} {cell}"),
-            Explanation::Refused(refusal) => refusal.fmt(out),
+            Explanation::Refused(refusal) => refusal.line(out),
         }
     }
 }

@@ -1,5 +1,8 @@
 //! Known pairs through the wrapper, and memory of any length.
 
+use std::collections::BTreeSet;
+use std::error::Error;
+
 use tengmua::{
     check_list, compare_lists, compare_plain, compare_programs, explain, unroll, Chosen,
     Explanation, Refusal, Reply, Side, Work, ALL, CELL_WORDS, LIST_WORDS, TERM_WORDS,
@@ -244,6 +247,35 @@ fn a_list_is_unrolled_checked_and_compared() {
     assert_eq!(work.lists(&left, &right, ALL), Reply::Refused(none));
     let right_side = Refusal { side: Side::Right, ..none };
     assert_eq!(work.lists(&right, &left, ALL), Reply::Refused(right_side));
+}
+
+/// A refusal goes through `?`, and says what was asked. The line of a reply stays the program's.
+#[test]
+fn a_refusal_is_an_error() {
+    fn updates(program: &[u8]) -> Result<usize, Box<dyn Error>> {
+        Ok(unroll(program, &mut vec![0; LIST_WORDS])?)
+    }
+    assert_eq!(updates(example!("copy")).expect("a list"), 2);
+    let error = updates(example!("outside")).expect_err("a subscript outside");
+    let asked = "Is each subscript inside its extent, the target's and the reads'?";
+    assert_eq!(error.to_string(), format!("refused left at place 22, question 16: {asked}"));
+    let refusal = error.downcast_ref::<Refusal>().expect("the refusal itself");
+    assert_eq!(refusal.words(), Some(asked));
+    assert_eq!(Reply::Refused(*refusal).to_string(), "refused left 16 22");
+    assert_eq!(Explanation::Refused(*refusal).to_string(), "refused left 16 22");
+}
+
+/// Each question that can be asked has its words, each its own, on one line; 21 is retired.
+#[test]
+fn each_question_has_words() {
+    let words = |question| Refusal { side: Side::Left, question, place: 0 }.words();
+    let asked = (1..=27).filter(|&number| number != 21);
+    let all: BTreeSet<_> = asked.map(|number| words(number).expect("words")).collect();
+    assert_eq!(all.len(), 26);
+    assert!(all.iter().all(|words| words.ends_with('?') && !words.contains('|')));
+    assert_eq!([words(0), words(21), words(28)], [None; 3]);
+    let unknown = Refusal { side: Side::Both, question: 28, place: 3 };
+    assert_eq!(unknown.to_string(), "refused both at place 3, question 28: see docs/QUESTIONS.md");
 }
 
 /// 25 comes first, of each slice, and touches nothing.
