@@ -41,7 +41,7 @@ tengmua: do two loop programs leave the same values?
 
 LEFT and RIGHT are program files (docs/FORMAT.md) or texts in the notation of separate/README.md. A file is a program file if it
 begins with ALP or holds a byte that no text holds; --bytes takes both as program files. A name that is one of the options stands
-behind --.
+behind --. Options stand before the names, each once.
 
 One line goes to standard output:
 
@@ -147,10 +147,18 @@ PART = re.compile('([0-9]{1,9})/([0-9]{1,9})')
 BITS = re.compile('(?:0x)?([0-9A-Fa-f]{1,4})')
 SIDED = re.compile(rb'(.+)\.(left|right)(?:\.[^.]+)?', re.DOTALL)  # the name of a file of a pair: NAME, side
 TWICE_SIDED = re.compile(rb'.+\.(?:left|right)\.(?:left|right)', re.DOTALL)  # the last word may be the side or EXT
-OPTIONS = ('--help', '--question', '--mask', '--all', '--explain', '--places', '--bytes', '--unproved', '--batch', '--part',
-           '--totals')
-VALUED = ('--question', '--mask', '--part')  # each takes the word behind it
-FORMS = (('--totals', '--totals FILE...'), ('--batch', '--batch DIRECTORY'), ('--mask', '--mask BITS LEFT RIGHT'))
+VALUED = {'--question': 'N', '--mask': 'BITS', '--part': 'K/N'}  # options that take the word behind them, and what it is
+# The calls, by the option that makes one: the names that stand behind it, whether so many may, and the options that go with it.
+CALLS = {
+    '--help': ('', lambda count: count == 0, ()),
+    '--question': ('', lambda count: count == 0, ()),
+    '--totals': (' FILE...', lambda count: count > 0, ()),
+    '--batch': (' DIRECTORY or LEFT RIGHT...', lambda count: count == 1 or count > 0 and count % 2 == 0,
+                ('--bytes', '--unproved', '--part')),
+    '': (' LEFT RIGHT', lambda count: count == 2, ('--mask', '--all', '--explain', '--places', '--bytes', '--unproved')),
+}
+OPTIONS = {option for made, (_, _, others) in CALLS.items() for option in (made, *others)} - {''}
+OF_FILES = ('--bytes', '--part')  # these speak of files: they do not go with `-`
 SIGNALS = (signal.SIGINT, signal.SIGTERM, signal.SIGHUP)
 TELL_EVERY = 20  # seconds between lines that say how far a build is
 SHOW_EVERY = 0.1  # seconds between two states of the line that says how far a run is
@@ -1121,7 +1129,7 @@ def ask_for_more():
 
 def reply_to_many(call):
     """Compares many pairs by one run of `batch`; gives the status."""
-    pairs, before = (None, 0) if call.framed else part_of(pairs_of(call.names), call.part)
+    pairs, before = (None, 0) if call.framed else part_of(pairs_of(call.names), call.options.get('--part'))
     frames = None if call.framed else Frames(pairs, '--bytes' in call.options)
     command = [program(Separate), 'batch'] if '--unproved' in call.options else [program(Proved('batch'))]
     if mark:
@@ -1148,36 +1156,47 @@ class Call:
     """The words of the command line."""
 
     def __init__(self, words):
-        self.options, values = set(), {}
+        self.options = {}  # each with the word behind it
         while words and words[0] in OPTIONS:
             option = words.pop(0)
-            if option == '--mask' and option in values:
-                raise Failure('--mask stands twice: one mask is asked for, with the bits of all arrays to compare')
-            if option in VALUED:
-                values[option] = words.pop(0) if words else ''
-            self.options.add(option)
-        self.question, self.part = values.get('--question'), values.get('--part')
-        self.mask = mask_of(self.options, values.get('--mask'))
+            if option in self.options:
+                raise Failure(f'{option} stands twice')
+            if option in VALUED and (not words or words[0] in OPTIONS):
+                raise Failure(f'{option}: {VALUED[option]} is asked for behind it')
+            self.options[option] = words.pop(0) if option in VALUED else None
+        self.mask = mask_of(set(self.options), self.options.get('--mask'))
         self.framed = words == ['-']
         if words and words[0] == '--':
             words.pop(0)
+        else:
+            ask_for_names(words)
         self.names = [] if self.framed else words
-        if not self.is_known(len(words)):
-            forms = [form for option, form in FORMS if option in self.options]
-            raise Failure(f'usage: tengmua {forms[0] if forms else "LEFT RIGHT"}; tengmua --help says more')
+        self.ask_for_call(len(words))
 
-    def is_known(self, count):
-        """Whether so many words may stand behind these options."""
-        options = self.options
-        if options & {'--help', '--question'}:
-            return len(options) == 1 and count == 0
-        if '--totals' in options:
-            return len(options) == 1 and count > 0 and not self.framed
-        if '--batch' not in options:
-            return '--part' not in options and (self.framed or count == 2)
-        if self.framed:
-            return options <= {'--batch', '--unproved'}
-        return not options & {'--explain', '--places'} and (count == 1 or count > 0 and count % 2 == 0)
+    def ask_for_call(self, count):
+        """Fails where these options do not go together, or with so many names."""
+        made = next(option for option in CALLS if option in self.options or not option)
+        names, may_be, others = CALLS[made]
+        for option in self.options:
+            if option not in (made, *others):
+                raise Failure(f'{option} does not go with {made}' if made else f'{option} goes with --batch alone')
+            if self.framed and option in OF_FILES:
+                raise Failure(f'{option} does not go with -')
+        if self.framed and made not in ('--batch', ''):
+            raise Failure(f'- does not go with {made}')
+        if not self.framed and not may_be(count):
+            words = ''.join(f' {option} {VALUED[option]}' if option in VALUED else f' {option}' for option in self.options)
+            found = {0: 'no name stands', 1: 'one name stands'}.get(count, f'{count} names stand')
+            raise Failure(f'usage: tengmua{words}{names}, and {found} there; tengmua --help says more')
+
+
+def ask_for_names(words):
+    """Fails where a word that no -- stands before is an option, or looks like one and is no file."""
+    for word in words:
+        if word == '--' or word in OPTIONS:
+            raise Failure(f'{word} stands behind a name: options stand before all names, and a file of this name behind --')
+        if word.startswith('--') and not os.path.lexists(word):
+            raise Failure(f'{shown(word)} is no option, and no file has this name; tengmua --help has the options')
 
 
 def mask_of(options, bits):
@@ -1243,8 +1262,8 @@ def run():
     if '--help' in call.options:
         write_out(HELP.encode())
         return 0
-    if call.question is not None:
-        tell_question(call.question)
+    if '--question' in call.options:
+        tell_question(call.options['--question'])
         return 0
     if '--totals' in call.options:
         return add_totals(call.names)
