@@ -87,8 +87,9 @@ totals; C adds up the compared elements of the equal pairs:
   pairs N equal E differs D refused R elements C
 
 Status 0: all pairs are equal; 1: some differ and none is refused; 2: some are refused; 3: there is no last line, so not all was
-compared, and standard error says why. Standard error also names each pair that is not equal. A run takes at most 65,535 pairs. A
-program of more than 16,384 bytes is refused and ends it, so does a stream that is cut; standard error says what was not compared.
+compared, and standard error says why. Standard error also names each pair that is not equal, and each whose sides are one file. A
+run takes at most 65,535 pairs. A program of more than 16,384 bytes is refused and ends it, so does a stream that is cut; standard
+error says what was not compared.
 
   DIRECTORY       each file below it, at any depth, is NAME.left or NAME.left.EXT, or NAME.right or NAME.right.EXT; EXT has no dot.
                   Each NAME has one of the left and one of the right in the same folder. Anything else there is a failure, before
@@ -280,6 +281,26 @@ def read_most(fd, most):
         parts.append(part)
         most -= len(part)
     return b''.join(parts)
+
+
+def ask_for_pipes(names):
+    """Fails where one pipe stands twice, before it is opened: who opens it again waits for ever."""
+    seen = set()
+    for name in names:
+        with contextlib.suppress(OSError):  # which is said where the file is read
+            state = os.stat(name)
+            if stat.S_ISFIFO(state.st_mode) or stat.S_ISSOCK(state.st_mode):
+                if (state.st_dev, state.st_ino) in seen:
+                    raise Failure(f'{shown(name)}: the same pipe as a file before it, and it can be read only once')
+                seen.add((state.st_dev, state.st_ino))
+
+
+def tell_same_file(names, pair=''):
+    """Says that both names are of one regular file, if they are. A reply stands without it."""
+    with contextlib.suppress(OSError):
+        left, right = map(os.stat, names)
+        if os.path.samestat(left, right) and stat.S_ISREG(left.st_mode):
+            say(f'{pair}both sides are the same file: {" and ".join(dict.fromkeys(map(shown, names)))}')
 
 
 class File:
@@ -973,6 +994,7 @@ def pairs_of(names):
     for name in names:
         if os.path.isdir(name):
             raise Failure(f'{shown(name)}: a directory among files')
+    ask_for_pipes(names)
     return list(zip(names[::2], names[1::2]))
 
 
@@ -1071,6 +1093,8 @@ class Batch:
             write_out(line)
             if not line.startswith(b'equal '):
                 self.name_pair(line)
+            if self.frames is not None:
+                tell_same_file(self.frames.pairs[self.tally.pairs() - 1], f'pair {self.before + self.tally.pairs()}: ')
 
     def read_errors(self, pipe):
         data = os.read(pipe.fileno(), 65536)
@@ -1241,6 +1265,7 @@ def reply(call):
             raise Failure(f'standard input: {error.strerror}') from None
         files = framed_files(data)
     else:
+        ask_for_pipes(call.names)
         files = read_pair(call.names, '--bytes' in call.options, set())
         data = framed(files[0].bytes, files[1].bytes)
     name, before = asked(call)
@@ -1251,6 +1276,8 @@ def reply(call):
     if mark:
         say('this reply is of the separately written program')
     write_out(lines)
+    if not call.framed:
+        tell_same_file(call.names)
     line = output.split(b'\n')[0]
     explain(line, files, origins, call)
     return STATUS[line.split()[0]]
