@@ -160,6 +160,9 @@ CALLS = {
 }
 OPTIONS = {option for made, (_, _, others) in CALLS.items() for option in (made, *others)} - {''}
 OF_FILES = ('--bytes', '--part')  # these speak of files: they do not go with `-`
+# What would have a say in where the scripts of `rt` go, where cargo puts what it builds, and what that is.
+UNWANTED = ('CDPATH', 'CARGO_BUILD_TARGET', 'CARGO_BUILD_TARGET_DIR', 'CARGO_TARGET_DIR', 'CARGO_BUILD_BUILD_DIR',
+            'CARGO_BUILD_RUSTFLAGS', 'CARGO_ENCODED_RUSTFLAGS', 'RUSTFLAGS')
 SIGNALS = (signal.SIGINT, signal.SIGTERM, signal.SIGHUP)
 TELL_EVERY = 20  # seconds between lines that say how far a build is
 SHOW_EVERY = 0.1  # seconds between two states of the line that says how far a run is
@@ -254,6 +257,21 @@ def shown(name):
     text = data.decode('utf-8', 'backslashreplace')
     plain = ''.join(c if c.isprintable() else c.encode('unicode_escape').decode() for c in text)
     return plain if plain and plain.strip().encode() == data else f"'{plain}'"
+
+
+def plain(error, name=''):
+    """What the system says, with the file that it is about, as far as one is known."""
+    file = error.filename or name
+    return f'{shown(file)}: {error.strerror}' if file else str(error.strerror)
+
+
+@contextlib.contextmanager
+def naming(name):
+    """Makes a failure of what the system says of a file: writing and reading say no name themselves."""
+    try:
+        yield
+    except OSError as error:
+        raise Failure(plain(error, name)) from None
 
 
 def write_out(data):
@@ -362,7 +380,7 @@ def digest_of_files(paths, more=b''):
     """Of names and contents."""
     whole = hashlib.sha256(more)
     for path in sorted(paths):
-        with open(os.path.join(ROOT, path), 'rb') as file:
+        with naming(path), open(os.path.join(ROOT, path), 'rb') as file:
             whole.update(f'\0{digest_of(os.fsencode(path))} {digest_of(file.read())}'.encode())
     return whole.hexdigest()
 
@@ -379,7 +397,7 @@ def fail_with(error):
 
 def crates_of(name):
     """The crate and all that it builds on, as crates.txt has them."""
-    with open(os.path.join(ROOT, 'crates.txt'), encoding='utf-8') as file:
+    with open(os.path.join(ROOT, 'crates.txt'), encoding='utf-8', errors='replace') as file:
         rows = [line.split('#')[0].split(':') for line in file]
     needs = {row[0].strip(): row[1].split() for row in rows if len(row) == 2}
     found, todo = set(), [name]
@@ -392,8 +410,8 @@ def crates_of(name):
 
 
 def started(command, errors, **how):
-    """Starts a tool at the root. CDPATH would have a say in where its scripts go."""
-    environment = {name: value for name, value in os.environ.items() if name != 'CDPATH'}
+    """Starts a tool at the root."""
+    environment = {name: value for name, value in os.environ.items() if name not in UNWANTED}
     try:
         return subprocess.Popen(command, cwd=ROOT, env=environment, stdin=subprocess.DEVNULL, stdout=subprocess.PIPE,
                                 stderr=errors, **how)
@@ -450,7 +468,11 @@ class Separate:
         folder = os.path.join(KEPT, 'cargo')
         shutil.rmtree(folder, ignore_errors=True)
         run_build(['cargo', 'build', '--release', '--offline', '--manifest-path', 'separate/Cargo.toml', '--target-dir', folder])
-        return os.path.join(folder, 'release', 'separate')
+        built = os.path.join(folder, 'release', 'separate')
+        if not os.path.isfile(built):
+            raise Failure(f'{shown(built)}: cargo build ended well and left no such file: a setting of cargo, as build.target in a '
+                          '.cargo/config.toml, may have sent it elsewhere')
+        return built
 
 
 @functools.lru_cache(maxsize=None)
@@ -471,7 +493,7 @@ def kept(kind, sources):
     for name in names:
         if name.startswith(start):
             path = os.path.join(KEPT, name)
-            with open(path, 'rb') as file:
+            with naming(path), open(path, 'rb') as file:
                 if name == start + digest_of(file.read()):
                     return path
     return None
@@ -479,6 +501,8 @@ def kept(kind, sources):
 
 def made(kind, sources):
     os.makedirs(KEPT, exist_ok=True)
+    if not os.access(KEPT, os.W_OK | os.X_OK):
+        raise Failure(f'{shown(KEPT)}: what is built is kept there, and it can\'t be written')
     built = kind.build()
     if kind.sources() != sources:
         raise Failure('the sources changed while they were being built: call again')
@@ -488,7 +512,7 @@ def made(kind, sources):
         if name.startswith((kind.name + '-', 'new-')):
             os.remove(os.path.join(KEPT, name))
     new = os.path.join(KEPT, f'new-{kind.name}')
-    with open(new, 'wb') as file:
+    with naming(new), open(new, 'wb') as file:
         file.write(data)
         os.fchmod(file.fileno(), 0o755)
     path = os.path.join(KEPT, f'{kind.name}-{sources}-{digest_of(data)}')
@@ -1143,10 +1167,8 @@ def ask_for_more():
     """Fails if standard input goes on behind the most pairs that are taken. `separate` reads ahead, so there nobody can tell."""
     if mark:
         raise Failure(f'standard input: {PAIRS} pairs, which is all that a run takes, and more may follow')
-    try:
+    with naming('standard input'):
         more = os.read(0, 1)
-    except OSError as error:
-        raise Failure(f'standard input: {error.strerror}') from None
     if more:
         raise Failure(f'standard input: more than {PAIRS} pairs, and a run takes no more')
 
@@ -1259,10 +1281,8 @@ def framed_files(data):
 def reply(call):
     """Reads, asks, writes the line and explains it; gives the status."""
     if call.framed:
-        try:
+        with naming('standard input'):
             data = read_most(0, FRAMED)
-        except OSError as error:
-            raise Failure(f'standard input: {error.strerror}') from None
         files = framed_files(data)
     else:
         ask_for_pipes(call.names)
@@ -1342,8 +1362,10 @@ def main():
         os.kill(os.getpid(), interrupted.args[0])
     except Failure as failure:
         say(str(failure))
+    except OSError as error:
+        say(plain(error))
     except BaseException as error:  # pylint: disable=broad-except
-        say(f'{type(error).__name__}: {error}'.replace('\n', ' '))
+        say(f'this is a fault of tengmua itself: {type(error).__name__}: {error}'.replace('\n', ' '))
     os._exit(status)
 
 
