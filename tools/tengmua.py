@@ -29,13 +29,14 @@ tengmua: do two loop programs leave the same values?
   tengmua [--mask BITS | --all] [--explain] [--places] [--bytes] [--unproved] [--] LEFT RIGHT
   tengmua [--mask BITS | --all] [--explain] [--places] [--unproved] -
                                 a framed pair on standard input: the left's length in two bytes, the left, the right
-  tengmua --batch [--bytes] [--unproved] [--part K/N] [--] LEFT RIGHT [LEFT RIGHT ...]
-  tengmua --batch [--bytes] [--unproved] [--part K/N] [--] DIRECTORY
+  tengmua --batch [--bytes] [--unproved] [--part K/N --out DIR] [--] LEFT RIGHT [LEFT RIGHT ...]
+  tengmua --batch [--bytes] [--unproved] [--part K/N --out DIR] [--] DIRECTORY
                                 many pairs: a line for each, and a last line with totals
   tengmua --batch [--unproved] -
                                 pairs on standard input, one after another: the lengths of the left and of the right, two bytes
                                 each, the left, the right
-  tengmua --totals [--] FILE... adds up the last lines of runs with --batch, whose output stands in these files
+  tengmua --totals [--unproved] [--] DIR
+                                adds up the totals of all parts of a release, whose files stand in DIR
   tengmua --question N          what question N (1 to 27, without 21) asks, and what to do about a refusal
   tengmua --help
 
@@ -95,8 +96,13 @@ error says what was not compared.
                   Each NAME has one of the left and one of the right in the same folder. Anything else there is a failure, before
                   anything is compared. The order is that of the folders' names and then of NAME, by their bytes
   --part K/N      the K-th of N parts of the pairs, which follow one another: the lines of all parts in order are those of one run,
-                  unless a refusal ends it
-  --totals        each FILE is the whole output of a run; the sum of the last lines is printed, with the status that it has
+                  unless a refusal ends it; then the parts behind it go on
+  --out DIR       where the part is written, as part-K-of-N; the folder is made if it is not there. The file's first line is a
+                  record: the part, the number of pairs, and digests of the whole release, of the checker and of this command.
+                  Then come the lines and the totals, which standard output does not get. The file has another name until all is
+                  compared: a part that fails leaves none. Files of pairs that are given one by one are regular files
+  --totals DIR    prints the sum of the parts in DIR, with the status that it has. Each of the parts 1 to N stands there once, all
+                  of one release and one checker, all proved (with --unproved: none), and nothing else; or there is no sum
 
 The first call proves and builds what is missing, which takes some minutes.
 
@@ -145,21 +151,29 @@ STATUS = {b'equal': 0, b'differs': 1, b'refused': 2}
 # The replies behind which `batch` takes no further pair: the stream is cut, or a stated length is above its limit.
 ENDING = re.compile(rb'refused (?:input 1|(?:left|right) 2) 0\n')
 PART = re.compile('([0-9]{1,9})/([0-9]{1,9})')
+COUNT, HEX = rb'([1-9][0-9]{0,8})', rb'([0-9a-f]{64})'
+PART_FILE = re.compile(rb'part-%s-of-%s' % (COUNT, COUNT))
+# The first line of a part's file: which part it is, how many pairs it and the release have, and of what and by what it was made.
+RECORD = re.compile(rb'part %s of %s pairs %s of %s release %s checker %s command %s (proved|NOT PROVED)\n'
+                    % (*(COUNT,) * 4, *(HEX,) * 3))
+RELEASED = ('--bytes',)  # options that change what is asked of a release: its digest holds them
 BITS = re.compile('(?:0x)?([0-9A-Fa-f]{1,4})')
 SIDED = re.compile(rb'(.+)\.(left|right)(?:\.[^.]+)?', re.DOTALL)  # the name of a file of a pair: NAME, side
 TWICE_SIDED = re.compile(rb'.+\.(?:left|right)\.(?:left|right)', re.DOTALL)  # the last word may be the side or EXT
-VALUED = {'--question': 'N', '--mask': 'BITS', '--part': 'K/N'}  # options that take the word behind them, and what it is
+# Options that take the word behind them, and what it is.
+VALUED = {'--question': 'N', '--mask': 'BITS', '--part': 'K/N', '--out': 'DIR'}
 # The calls, by the option that makes one: the names that stand behind it, whether so many may, and the options that go with it.
 CALLS = {
     '--help': ('', lambda count: count == 0, ()),
     '--question': ('', lambda count: count == 0, ()),
-    '--totals': (' FILE...', lambda count: count > 0, ()),
+    '--totals': (' DIR', lambda count: count == 1, ('--unproved',)),
     '--batch': (' DIRECTORY or LEFT RIGHT...', lambda count: count == 1 or count > 0 and count % 2 == 0,
-                ('--bytes', '--unproved', '--part')),
+                ('--bytes', '--unproved', '--part', '--out')),
     '': (' LEFT RIGHT', lambda count: count == 2, ('--mask', '--all', '--explain', '--places', '--bytes', '--unproved')),
 }
 OPTIONS = {option for made, (_, _, others) in CALLS.items() for option in (made, *others)} - {''}
-OF_FILES = ('--bytes', '--part')  # these speak of files: they do not go with `-`
+OF_FILES = ('--bytes', '--part', '--out')  # these speak of files: they do not go with `-`
+TOGETHER = {'--part': '--out', '--out': '--part'}  # each asks for the other
 # What would have a say in where the scripts of `rt` go, where cargo puts what it builds, and what that is.
 UNWANTED = ('CDPATH', 'CARGO_BUILD_TARGET', 'CARGO_BUILD_TARGET_DIR', 'CARGO_TARGET_DIR', 'CARGO_BUILD_BUILD_DIR',
             'CARGO_BUILD_RUSTFLAGS', 'CARGO_ENCODED_RUSTFLAGS', 'RUSTFLAGS')
@@ -328,6 +342,10 @@ class File:
         self.name = name
         self.bytes = data
         self.text = text
+
+    def digest(self):
+        """Of what was read."""
+        return digest_of(self.bytes if self.text is None else self.text)
 
 
 def read_file(name, as_bytes, pipes):
@@ -877,8 +895,9 @@ def tell_question(word):
 class Tally:
     """The lines of a run of `batch`, counted as they come, up to the last one, which must say what was counted."""
 
-    def __init__(self, who):
+    def __init__(self, who, above=0):
         self.who = who  # what a message begins with
+        self.above = above  # so many lines stand before the first
         self.counts = dict.fromkeys(STATUS, 0)
         self.elements = 0
         self.ending = None  # the reply that ended the run
@@ -927,7 +946,7 @@ class Tally:
         return True
 
     def fail(self, why):
-        raise Failure(f'{self.who}: line {self.pairs() + (self.last is not None) + 1} {why}')
+        raise Failure(f'{self.who}: line {self.above + self.pairs() + (self.last is not None) + 1} {why}')
 
     def end(self):
         """Asks whether the last line is there, when nothing more comes."""
@@ -935,38 +954,6 @@ class Tally:
             self.fail('has no end')
         if self.last is None:
             raise Failure(f'{self.who}: it ends without totals, behind {self.pairs()} lines')
-
-
-def run_in_file(name, seen):
-    """Counts a run whose output stands in a file. `seen` holds the identities of the files before it."""
-    tally = Tally(shown(name))
-    try:
-        fd = os.open(name, os.O_RDONLY | os.O_CLOEXEC | os.O_NOCTTY)
-        try:
-            state = os.fstat(fd)
-            if (state.st_dev, state.st_ino) in seen:
-                raise Failure(f'{shown(name)}: the same file as one before it')
-            seen.add((state.st_dev, state.st_ino))
-            for data in iter(lambda: os.read(fd, 65536), b''):
-                for _ in tally.take(data):
-                    pass
-        finally:
-            os.close(fd)
-    except OSError as error:
-        raise Failure(f'{shown(name)}: {error.strerror}') from None
-    tally.end()
-    if tally.pairs() == 0:
-        raise Failure(f'{shown(name)}: no pair was compared')
-    return tally
-
-
-def add_totals(names):
-    """Writes the sum of the last lines of runs; gives its status."""
-    tally, seen = Tally('the sum'), set()
-    for name in names:
-        tally.add(run_in_file(name, seen))
-    write_out(tally.totals())
-    return tally.status()
 
 
 def pairs_below(folder):
@@ -1011,26 +998,29 @@ def both_sides(sides):
     return sides[b'left'], sides[b'right']
 
 
-def pairs_of(names):
-    """The names of both files of each pair, of a folder or of files."""
+def pairs_of(names, twice=False):
+    """The names of both files of each pair, of a folder or of files, each of which may have to be read twice."""
     if len(names) == 1:
         return pairs_below(names[0])
     for name in names:
         if os.path.isdir(name):
             raise Failure(f'{shown(name)}: a directory among files')
+        if twice and os.path.exists(name) and not os.path.isfile(name):
+            raise Failure(f'{shown(name)}: a pipe or a device, and a part reads each file of the release twice')
     ask_for_pipes(names)
     return list(zip(names[::2], names[1::2]))
 
 
-def part_of(pairs, part):
-    """The pairs that a run takes, and how many stand before them."""
-    found = PART.fullmatch('1/1' if part is None else part)
-    number, parts = map(int, found.groups()) if found else (0, 0)
-    if not 1 <= number <= parts:
-        raise Failure(f'--part {shown(part)}: K/N is asked for, with K from 1 to N')
+def stretch(count, number, parts):
+    """Which of so many pairs are a part: the first of them, and the first behind them, counted from 0."""
+    return tuple(k * count // parts for k in (number - 1, number))
+
+
+def part_of(pairs, number=1, parts=1):
+    """The pairs of a part, and how many stand before them."""
     if parts > len(pairs):
-        raise Failure(f'--part {part}: there are {len(pairs)} pairs, and no part may be empty')
-    first, behind = (k * len(pairs) // parts for k in (number - 1, number))
+        raise Failure(f'--part {number}/{parts}: there are {len(pairs)} pairs, and no part may be empty')
+    first, behind = stretch(len(pairs), number, parts)
     if behind - first > PAIRS:
         fewest = -(-len(pairs) // PAIRS)
         raise Failure(f'{behind - first} pairs, and a run takes at most {PAIRS}: take them in parts, '
@@ -1041,8 +1031,10 @@ def part_of(pairs, part):
 class Frames:
     """Pairs as `batch` reads them, each taken from its files when its turn comes. A program that is too long ends the run."""
 
-    def __init__(self, pairs, as_bytes):
+    def __init__(self, pairs, before, as_bytes, part=None, digests=None):
         self.pairs, self.as_bytes = pairs, as_bytes
+        self.before = before  # so many pairs stand before the first
+        self.part, self.digests = part, digests  # the number of the part that these are, and the digests of both files of each pair
         self.pipes = set()
         self.count = 0  # pairs that were read
         self.ending = None  # the reply to the last of them, if it ends the run
@@ -1051,7 +1043,11 @@ class Frames:
         """The bytes of the next pair; none when all are read."""
         if self.ending is not None or self.count == len(self.pairs):
             return b''
-        programs = [file.bytes for file in read_pair(self.pairs[self.count], self.as_bytes, self.pipes)]
+        files = read_pair(self.pairs[self.count], self.as_bytes, self.pipes)
+        for file, digest in zip(files, self.digests[self.count] if self.digests else ()):
+            if file.digest() != digest:
+                raise Failure(f'{shown(file.name)}: it changed while the release was being read')
+        programs = [file.bytes for file in files]
         self.count += 1
         for side, data in zip(SIDES, programs):
             if len(data) > PROGRAM and self.ending is None:
@@ -1066,10 +1062,11 @@ class Frames:
 class Batch:
     """A run of `batch`. Each of its pipes is served when it is ready, so that neither end waits for the other for ever."""
 
-    def __init__(self, child, frames, before):
+    def __init__(self, child, frames, put):
         self.child = child
         self.frames = frames  # none where it reads standard input itself
-        self.before = before  # so many pairs stand before the first
+        self.before = frames.before if frames else 0  # so many pairs stand before the first
+        self.put = put  # takes each line
         self.tally = Tally('no last line from batch')
         self.unwritten = b''
         self.is_whole = frames is None  # whether all was handed over
@@ -1114,7 +1111,7 @@ class Batch:
         for line in self.tally.take(data):
             if self.frames is not None and not self.frames.may_have(self.tally.pairs(), self.tally.ending):
                 raise Failure(f'{self.tally.who}: line {self.tally.pairs()} is no reply to a pair that was handed over')
-            write_out(line)
+            self.put(line)
             if not line.startswith(b'equal '):
                 self.name_pair(line)
             if self.frames is not None:
@@ -1148,19 +1145,25 @@ class Batch:
             ask_for_more()
         if tally.ending is not None:
             self.tell_ending()
-        write_out(tally.last)
+        self.put(tally.last)
         return tally.status()
 
     def tell_ending(self):
         """Says what was not compared, where a refusal ended the run."""
         tally, frames = self.tally, self.frames
-        number = self.before + tally.pairs()
-        if frames is not None and len(frames.pairs) > frames.count:
-            say(f'not compared: {len(frames.pairs) - frames.count} of {len(frames.pairs)} pairs, since pair {number} ended the run '
-                f'with a program of more than {PROGRAM} bytes')
-        if frames is None:
+        if frames is not None:
+            tell_uncompared(tally.pairs(), len(frames.pairs), self.before, frames.part)
+        else:
             why = 'the input is cut' if b'input' in tally.ending else f'a length above {PROGRAM} ended the run'
-            say(f'not compared: what follows pair {number}, since {why} there')
+            say(f'not compared: what follows pair {tally.pairs()}, since {why} there')
+
+
+def tell_uncompared(compared, count, before, part):
+    """Says how many of the pairs of a run, or of a part, stand behind one that ended it."""
+    if compared < count:
+        of_part, ended_it = (f' of part {part}', 'it') if part else ('', 'the run')
+        say(f'not compared: {count - compared} of {count} pairs{of_part}, since pair {before + compared} ended {ended_it} with a '
+            f'program of more than {PROGRAM} bytes')
 
 
 def ask_for_more():
@@ -1173,19 +1176,22 @@ def ask_for_more():
         raise Failure(f'standard input: more than {PAIRS} pairs, and a run takes no more')
 
 
-def reply_to_many(call):
-    """Compares many pairs by one run of `batch`; gives the status."""
-    pairs, before = (None, 0) if call.framed else part_of(pairs_of(call.names), call.options.get('--part'))
-    frames = None if call.framed else Frames(pairs, '--bytes' in call.options)
+def checker_of(call):
+    """The program that compares many pairs, and its words."""
     command = [program(Separate), 'batch'] if '--unproved' in call.options else [program(Proved('batch'))]
     if mark:
         say('these replies are of the separately written program')
+    return command
+
+
+def run_batch(command, frames, put):
+    """Compares many pairs by one run of `batch`, which reads standard input itself where there are no frames; gives the status."""
     with held_signals():
-        child = subprocess.Popen(command, bufsize=0, stdin=None if call.framed else subprocess.PIPE, stdout=subprocess.PIPE,
+        child = subprocess.Popen(command, bufsize=0, stdin=subprocess.PIPE if frames else None, stdout=subprocess.PIPE,
                                  stderr=subprocess.PIPE, env={}, cwd='/')
         try:
             with open_signals():
-                batch = Batch(child, frames, before)
+                batch = Batch(child, frames, put)
                 batch.follow()
                 return batch.finish()
         finally:
@@ -1193,6 +1199,160 @@ def reply_to_many(call):
             child.kill()
             child.wait()
             wipe_progress()
+
+
+def reply_to_many(call):
+    """Compares many pairs; gives the status."""
+    if '--part' in call.options:
+        return reply_to_part(call)
+    frames = None if call.framed else Frames(*part_of(pairs_of(call.names)), '--bytes' in call.options)
+    return run_batch(checker_of(call), frames, write_out)
+
+
+# ---- parts of a release, and their sum
+
+
+class PartFile:
+    """The file of a part. Until all of it is written it has another name, so that a part that fails leaves none."""
+
+    def __init__(self, folder, name):
+        self.path = os.path.join(folder, name)
+        self.new = os.path.join(folder, f'unfinished-{name}-{os.urandom(4).hex()}')
+        with naming(self.path):
+            with contextlib.suppress(FileExistsError):
+                os.mkdir(folder)
+            with contextlib.suppress(FileNotFoundError):
+                os.remove(self.path)  # of an earlier run: this one may fail
+            self.file = open(self.new, 'xb')  # pylint: disable=consider-using-with
+
+    def write(self, line):
+        with naming(self.new):
+            self.file.write(line)
+
+    def finish(self):
+        with naming(self.new):
+            self.file.flush()
+            os.fsync(self.file.fileno())
+            os.rename(self.new, self.path)
+
+    def close(self):
+        """Leaves nothing of a file that was not finished."""
+        for end in (lambda: os.remove(self.new), self.file.close):
+            with contextlib.suppress(OSError):
+                end()
+
+
+def reply_to_part(call):
+    """Compares a part of a release; its file has the lines. Gives the status."""
+    found = PART.fullmatch(call.options['--part'])
+    number, parts = map(int, found.groups()) if found else (0, 0)
+    if not 1 <= number <= parts:
+        raise Failure(f'--part {shown(call.options["--part"])}: K/N is asked for, with K from 1 to N')
+    with held_signals():
+        file = PartFile(call.options['--out'], f'part-{number}-of-{parts}')
+        try:
+            with open_signals():
+                status = run_part(call, number, parts, file.write)
+            file.finish()
+            return status
+        finally:
+            file.close()
+
+
+def run_part(call, number, parts, put):
+    """The record of a part, and the lines of its run; gives the status."""
+    pairs = pairs_of(call.names, twice=True)
+    mine, first = part_of(pairs, number, parts)
+    command = checker_of(call)
+    release, digests = digests_of(call, pairs, range(first, first + len(mine)))
+    checker = os.path.basename(command[0]).split('-')[1]  # the digest of its sources
+    reader = digest_of_files(['tools/tengmua.py'], Separate.sources().encode())
+    put(f'part {number} of {parts} pairs {len(mine)} of {len(pairs)} release {release} checker {checker} command {reader} '
+        f'{"NOT PROVED" if mark else "proved"}\n'.encode())
+    return run_batch(command, Frames(mine, first, '--bytes' in call.options, number, digests), put)
+
+
+def digests_of(call, pairs, kept_of):
+    """The digest of a release, over names and contents of all its files in order, and those of both files of some of its pairs."""
+    folder = os.path.join(os.fsencode(call.names[0]), b'') if len(call.names) == 1 else b''
+    whole = hashlib.sha256(' '.join(option for option in RELEASED if option in call.options).encode())
+    digests = []
+    for place, pair in enumerate(pairs):
+        both = [read_file(name, '--bytes' in call.options, set()).digest() for name in pair]
+        for name, digest in zip(pair, both):
+            whole.update(f'\0{digest_of(os.fsencode(name)[len(folder):])} {digest}'.encode())
+        if place in kept_of:
+            digests.append(both)
+        show_progress(f'{place + 1} of {len(pairs)} pairs read')
+    return whole.hexdigest(), digests
+
+
+class Part:
+    """What the file of a part says: its record, and the lines of its pairs, counted."""
+
+    def __init__(self, path):
+        self.path = path
+        self.tally = Tally(shown(path), 1)
+        with naming(path), open(path, 'rb') as file:
+            found = RECORD.fullmatch(file.readline(1024))
+            if found is None or int(found.group(1)) > int(found.group(2)):
+                raise Failure(f'{shown(path)}: line 1 is no record of a part')
+            for data in iter(lambda: file.read(65536), b''):
+                for _ in self.tally.take(data):
+                    pass
+        self.tally.end()
+        self.number, self.parts, self.count, pairs = map(int, found.group(1, 2, 3, 4))
+        self.shared = dict(zip(('number of parts', 'number of pairs', 'release', 'checker', 'command'), found.group(2, 4, 5, 6, 7)))
+        self.word = found.group(8).decode()
+        self.first, behind = stretch(pairs, self.number, self.parts)
+        if self.count != behind - self.first:
+            raise Failure(f'{shown(path)}: its record says {self.count} pairs, and part {self.number} of {self.parts} of {pairs} '
+                          f'pairs has {behind - self.first}')
+        compared, ending = self.tally.pairs(), self.tally.ending
+        if compared > self.count or compared < self.count and ending is None or ending == b'refused input 1 0\n':
+            raise Failure(f'{shown(path)}: {compared} replies, and no part of {self.count} pairs ends there')
+
+
+def parts_in(folder, word):
+    """The parts whose files stand in a folder, with this word in each record: 1 to N, once each, of one release and one checker."""
+    with naming(folder):
+        entries = sorted(os.scandir(os.fsencode(folder)), key=lambda entry: entry.name)
+    parts = {}
+    for entry in entries:
+        found = PART_FILE.fullmatch(entry.name)
+        if found is None or not entry.is_file(follow_symlinks=False):
+            why = 'a part that was not finished' if entry.name.startswith(b'unfinished-') else 'no file of a part'
+            raise Failure(f'{shown(entry.path)}: {why}, and nothing but parts may stand there')
+        part = Part(entry.path)
+        if (part.number, part.parts) != tuple(map(int, found.groups())):
+            raise Failure(f'{shown(entry.path)}: its record is that of part {part.number} of {part.parts}')
+        if part.word != word:
+            what = 'such parts' if word == 'proved' else 'parts that are not'
+            raise Failure(f'{shown(entry.path)}: it is {part.word}, and --unproved adds up {what}')
+        first = next(iter(parts.values()), part)
+        for what, value in part.shared.items():
+            if value != first.shared[what]:
+                raise Failure(f'{shown(entry.path)}: another {what} than in {shown(first.path)}')
+        parts[part.number] = part
+    if not parts:
+        raise Failure(f'{shown(folder)}: there is no part in it')
+    for number in range(1, part.parts + 1):
+        if number not in parts:
+            raise Failure(f'{shown(folder)}: part-{number}-of-{part.parts} is not there')
+    return [parts[number] for number in sorted(parts)]
+
+
+def add_totals(folder):
+    """Writes the sum of the last lines of all parts of a release; gives its status."""
+    total = Tally('the sum')
+    parts = parts_in(folder, 'NOT PROVED' if mark else 'proved')
+    if mark:
+        say('these replies are of the separately written program')
+    for part in parts:
+        tell_uncompared(part.tally.pairs(), part.count, part.first, part.number)
+        total.add(part.tally)
+    write_out(total.totals())
+    return total.status()
 
 
 # ---- the call
@@ -1228,6 +1388,8 @@ class Call:
                 raise Failure(f'{option} does not go with {made}' if made else f'{option} goes with --batch alone')
             if self.framed and option in OF_FILES:
                 raise Failure(f'{option} does not go with -')
+            if TOGETHER.get(option, option) not in self.options:
+                raise Failure(f'{option} asks for {TOGETHER[option]} {VALUED[TOGETHER[option]]} too')
         if self.framed and made not in ('--batch', ''):
             raise Failure(f'- does not go with {made}')
         if not self.framed and not may_be(count):
@@ -1312,10 +1474,10 @@ def run():
     if '--question' in call.options:
         tell_question(call.options['--question'])
         return 0
-    if '--totals' in call.options:
-        return add_totals(call.names)
     if '--unproved' in call.options:
         mark = b'NOT PROVED: '
+    if '--totals' in call.options:
+        return add_totals(call.names[0])
     return reply_to_many(call) if '--batch' in call.options else reply(call)
 
 
