@@ -15,7 +15,7 @@ use separate::{
 
 const USAGE: &str = "usage: separate pair | explain | masked | batch
        separate lines | histogram | list-lines | entry-lines | batch-lines
-       separate asm [--places] | dis [--places]
+       separate asm [--places | --names | --statements] | dis [--places]
        separate random COUNT SEED | random-lists COUNT SEED | random-entries COUNT SEED
        separate random-explanations COUNT SEED | random-batches COUNT SEED";
 
@@ -37,6 +37,8 @@ fn main() -> ExitCode {
         Some(["batch-lines"]) => batch_lines(),
         Some(["asm"]) => asm(),
         Some(["asm", "--places"]) => asm_places(),
+        Some(["asm", "--names"]) => asm_names(),
+        Some(["asm", "--statements"]) => asm_statements(),
         Some(["dis"]) => dis(notation::disassemble),
         Some(["dis", "--places"]) => dis(notation::disassemble_with_places),
         Some(["random", count, seed]) => random(count, seed),
@@ -270,6 +272,24 @@ fn asm_places() -> Outcome {
     output(|out| {
         places.iter().try_for_each(|notation::Place { place, at, what }| {
             writeln!(out, "{place}\t{}\t{}\t{what}", at.line, at.column)
+        })
+    })
+}
+
+fn asm_names() -> Outcome {
+    let names = notation::names(&standard_text()?).map_err(|error| error.to_string())?;
+    output(|out| {
+        names.iter().try_for_each(|notation::Name { word, number, name, kind, at }| {
+            writeln!(out, "{word}\t{number}\t{name}\t{kind}\t{}\t{}", at.line, at.column)
+        })
+    })
+}
+
+fn asm_statements() -> Outcome {
+    let rows = notation::statements(&standard_text()?).map_err(|error| error.to_string())?;
+    output(|out| {
+        rows.iter().try_for_each(|notation::Spelled { from, to, indices, text }| {
+            writeln!(out, "{from}\t{to}\t{}\t{text}", indices.join(" "))
         })
     })
 }

@@ -157,7 +157,7 @@ fn batch_says_where_a_read_failed() {
 
 #[test]
 fn wrong_usage() {
-    let wrong: [&[&str]; 17] = [
+    let wrong: [&[&str]; 19] = [
         &[],
         &["pears"],
         &["pair", "x"],
@@ -175,6 +175,8 @@ fn wrong_usage() {
         &["random", "3", "-4"],
         &["random-lists", "", "4"],
         &["lines", "x"],
+        &["asm", "--name"],
+        &["dis", "--names"],
     ];
     for arguments in wrong {
         let output = separate(arguments, b"");
@@ -288,4 +290,21 @@ fn asm_and_dis_with_places() {
     assert!(text(&wrong.stderr).starts_with("line 3, column 8: "));
     let wrong = separate(&["dis", "--places"], &L[..33]);
     assert_eq!((wrong.status.code(), text(&wrong.stderr)), (Some(2), "refused 3 33\n"));
+}
+
+#[test]
+fn asm_with_names_and_statements() {
+    let input = b"op f/2*\narray B in [2]\narray A out [2]\nfor j = 0 to 1 { A[j] = B[j] }\n";
+    for (option, out) in [
+        ("--names", "op\t0\tf\t/2*\t1\t4\narray\t0\tB\tin\t2\t7\narray\t1\tA\tout\t3\t7\n"),
+        ("--statements", "23\t33\tj\tA[j] = B[j]\n"),
+    ] {
+        let output = separate(&["asm", option], input);
+        assert_eq!((output.status.code(), text(&output.stdout)), (Some(0), out));
+        let wrong = separate(&["asm", option], b"array A in [1]\n\nA[0] = x\n");
+        assert_eq!(wrong.status.code(), Some(2));
+        assert!(wrong.stdout.is_empty() && text(&wrong.stderr).starts_with("line 3, column 8: "));
+    }
+    let output = separate(&["asm", "--statements"], b"array A out [1] A[0] = 1");
+    assert_eq!(text(&output.stdout), "11\t18\t\tA[0] = 1\n");
 }

@@ -3,7 +3,8 @@
 mod common;
 use common::{asm, L};
 use separate::notation::{
-    assemble, disassemble, disassemble_with_places, parse, places, print, Position,
+    assemble, disassemble, disassemble_with_places, names, parse, places, print, statements, Name,
+    Position, Spelled,
 };
 use separate::random::Pairs;
 use separate::read::read_program;
@@ -486,6 +487,90 @@ fn places_of_counts() {
     assert_eq!(row(3), (7, at(4, 4), "arity g"));
     let rows = places("op f/1\n\nfor i = 0 to 1 { }").unwrap();
     assert_eq!((rows[2].place, rows[2].at.line, rows[2].what.as_str()), (7, 3, "array count"));
+}
+
+#[test]
+fn names_of_declarations() {
+    let text = "# first\nversion 2 array Blue in [4, 2]\n op mul/2* op add/3\narray T local [1]
+array Out out [4] array _s1 inout [1] op zero/0\nT[0] = 1";
+    let name = |Name { word, number, name, kind, at }| {
+        format!("{word} {number} {name} {kind} {}.{}", at.line, at.column)
+    };
+    let rows: Vec<_> = names(text).unwrap().into_iter().map(name).collect();
+    let expected = [
+        "op 0 mul /2* 3.5",
+        "op 1 add /3 3.15",
+        "op 2 zero /0 5.42",
+        "array 0 Blue in 2.17",
+        "array 1 T local 4.7",
+        "array 2 Out out 5.7",
+        "array 3 _s1 inout 5.25",
+    ];
+    assert_eq!(rows, expected);
+    assert_eq!(names(""), Ok(Vec::new()));
+    let many: String = (0..255).map(|number| format!("array A{number} in [1, 2]\n")).collect();
+    let rows = names(&many).unwrap();
+    assert_eq!((rows.len(), rows[254].number, rows[254].name.as_str()), (255, 254, "A254"));
+}
+
+#[test]
+fn statements_as_they_are_written() {
+    let text = "array B in [2] # B[0] = 1
+array A out [2]
+for j = 0 to 1 { if j >= 0 {
+  for i = 0 to 0 {
+    A  [ j
+      ] =\t# the target
+   B[i]A[j]=0x0A } }
+  A[-j + 1] = const 7 }\r
+A[0]\r\n= A[ 1 ]";
+    let row = |from, to, indices: &str, text: &str| Spelled {
+        from,
+        to,
+        indices: indices.split_whitespace().map(str::to_string).collect(),
+        text: text.to_string(),
+    };
+    let expected = [
+        row(35, 47, "j i", "A [ j ] = B[i]"),
+        row(47, 58, "j i", "A[j]=0x0A"),
+        row(60, 70, "j", "A[-j + 1] = const 7"),
+        row(71, 79, "", "A[0] = A[ 1 ]"),
+    ];
+    assert_eq!(statements(text).unwrap(), expected);
+    assert_eq!(statements("array A in [1] for i = 0 to 1 { }"), Ok(Vec::new()));
+}
+
+/// As `dis --places` has them: each on a line of its own, up to the place of the next line.
+#[test]
+fn statements_of_random_programs() {
+    let mut checked = 0;
+    for input in Pairs::new(79).take(600) {
+        let Some(program) = input.get(2..) else { continue };
+        let length = usize::from(u16::from_le_bytes([input[0], input[1]]));
+        let Some(program) = program.get(..length) else { continue };
+        let Ok(text) = disassemble_with_places(program) else { continue };
+        let lines: Vec<_> = text.lines().map(|line| line.split_once(" at ").unwrap()).collect();
+        let mut around = Vec::new();
+        let mut expected = Vec::new();
+        for (line, next) in lines.iter().zip(&lines[1..]) {
+            let words = line.0.trim_start().trim_end_matches(['#', ' ']);
+            match words.split(' ').collect::<Vec<_>>()[..] {
+                ["for", index, ..] => around.push(Some(index.to_string())),
+                ["if", ..] => around.push(None),
+                ["}"] => drop(around.pop()),
+                ["version" | "op" | "array", ..] => {}
+                _ => expected.push(Spelled {
+                    from: line.1.parse().unwrap(),
+                    to: next.1.parse().unwrap(),
+                    indices: around.iter().flatten().cloned().collect(),
+                    text: words.to_string(),
+                }),
+            }
+        }
+        assert_eq!(statements(&text).unwrap(), expected, "{text}");
+        checked += expected.len();
+    }
+    assert!(checked > 2_000, "{checked}");
 }
 
 #[test]

@@ -1,12 +1,15 @@
 //! From text to a tree and to bytes.
 
-use std::ops::RangeInclusive;
+use std::ops::{Range, RangeInclusive};
 
-use super::token::{tokens, Error, Position, Token};
+use super::token::{words, Error, Position, Token, Word};
 use super::{RESERVED, ROLES};
 use crate::limits::{ARITY, ARRAYS, EXTENT, OPERATORS};
+use crate::read::code;
 use crate::tables::{self, Role};
-use crate::tree::{encode, Declaration, Expression, Form, Guard, Item, Loop, Source, Statement};
+use crate::tree::{
+    encode, Declaration, Expression, Field, Form, Guard, Item, Loop, Source, Statement,
+};
 
 /// So deep may a text nest, far beyond what is read, so that the stack is enough.
 const NESTING: usize = 500;
@@ -17,7 +20,7 @@ pub fn assemble(text: &str) -> Result<Vec<u8>, Error> {
 }
 
 pub fn parse(text: &str) -> Result<Source, Error> {
-    marked(text).map(|(source, _)| source)
+    parsed(text).map(|parser| parser.source)
 }
 
 /// A field of a program file and where it stands in the text.
@@ -30,29 +33,110 @@ pub struct Place {
 
 /// Every field that is no part of a form, in the order of the file.
 pub fn places(text: &str) -> Result<Vec<Place>, Error> {
-    let (source, marks) = marked(text)?;
-    let fields = encode(&source).fields;
+    let parser = parsed(text)?;
+    let fields = encode(&parser.source).fields;
+    let marks = parser.marks();
     assert_eq!(fields.len(), marks.len(), "each field has its mark");
     let place =
         |((_, place), (what, at)): ((_, usize), (String, Position))| Place { place, at, what };
     Ok(fields.into_iter().zip(marks).map(place).collect())
 }
 
+/// An operator or array that a text declares, and where its name stands.
+#[derive(Clone, Debug, PartialEq, Eq)]
+pub struct Name {
+    /// The word of the declaration.
+    pub word: &'static str,
+    pub number: usize,
+    pub name: String,
+    /// The role, or what stands behind the name of an operator.
+    pub kind: String,
+    pub at: Position,
+}
+
+/// The operators, then the arrays.
+pub fn names(text: &str) -> Result<Vec<Name>, Error> {
+    let parser = parsed(text)?;
+    let Source { operators, arrays, .. } = &parser.source;
+    let kinds = operators.iter().map(|&operator| {
+        let star = if operator == tables::MARKED { "*" } else { "" };
+        format!("/{}{star}", tables::arity(operator))
+    });
+    let mut names = declared("op", "arity ", &parser.operator_marks, kinds);
+    let kinds = arrays.iter().map(|array| ROLES[usize::from(array.role.number())].to_string());
+    names.extend(declared("array", "role ", &parser.array_marks, kinds));
+    Ok(names)
+}
+
+/// Of the marks of the declarations with one word, those whose field begins like this.
+fn declared(
+    word: &'static str,
+    field: &str,
+    marks: &[Mark],
+    kinds: impl Iterator<Item = String>,
+) -> Vec<Name> {
+    let marks = marks.iter().filter_map(|(what, at)| Some((what.strip_prefix(field)?, *at)));
+    let rows = marks.zip(kinds).enumerate();
+    rows.map(|(number, ((name, at), kind))| Name { word, number, name: name.to_string(), kind, at })
+        .collect()
+}
+
+/// A statement as its text has it.
+#[derive(Clone, Debug, PartialEq, Eq)]
+pub struct Spelled {
+    /// The place of its code byte, and the place past its expression.
+    pub from: usize,
+    pub to: usize,
+    /// The names of the indices around it, outermost first.
+    pub indices: Vec<String>,
+    /// Its words on one line, with a blank where white space or comments stand between them.
+    pub text: String,
+}
+
+/// Every statement, in the order of the file.
+pub fn statements(text: &str) -> Result<Vec<Spelled>, Error> {
+    let Parser { source, words, statements, .. } = parsed(text)?;
+    let encoded = encode(&source);
+    let codes = encoded.fields.iter().filter(|(field, _)| *field == Field::ItemCode);
+    let codes: Vec<_> = codes.map(|&(_, place)| place).collect();
+    // The code behind a statement is that of the next item, or of an end.
+    let is_statement = |pair: &&[usize]| encoded.bytes[pair[0]] == code::STATEMENT;
+    let stretches: Vec<_> = codes.windows(2).filter(is_statement).collect();
+    assert_eq!(stretches.len(), statements.len(), "each statement has its stretch");
+    let spelled = |(stretch, (indices, own)): (&[usize], (Vec<String>, Range<usize>))| Spelled {
+        from: stretch[0],
+        to: stretch[1],
+        indices,
+        text: spelled(text, &words[own]),
+    };
+    Ok(stretches.into_iter().zip(statements).map(spelled).collect())
+}
+
+fn spelled(text: &str, words: &[Word]) -> String {
+    let mut line = String::new();
+    let mut end = words[0].bytes.start;
+    for word in words {
+        if word.bytes.start > end {
+            line.push(' ');
+        }
+        line += &text[word.bytes.clone()];
+        end = word.bytes.end;
+    }
+    line
+}
+
 /// What a field is, and where; one for each field that `encode` notes.
 type Mark = (String, Position);
 
-fn marked(text: &str) -> Result<(Source, Vec<Mark>), Error> {
-    let mut parser = Parser { tokens: tokens(text)?, ..Parser::default() };
-    let mut marks = Vec::from_iter(parser.version()?);
+fn parsed(text: &str) -> Result<Parser, Error> {
+    let mut parser = Parser { words: words(text)?, ..Parser::default() };
+    parser.version_mark = parser.version()?;
     parser.declarations()?;
     let items = parser.items()?;
     parser.expect_end()?;
     parser.mark("end");
     parser.source.items = items;
-    marks.append(&mut parser.operator_marks);
-    marks.append(&mut parser.array_marks);
-    marks.append(&mut parser.item_marks);
-    Ok((parser.source, marks))
+    Ok(parser)
 }
 
 #[derive(Default)]
@@ -87,7 +171,7 @@ fn counted(count: usize, noun: &str) -> String {
 
 #[derive(Default)]
 struct Parser {
-    tokens: Vec<(Token, Position)>,
+    words: Vec<Word>,
     at: usize,
     /// Its items stay empty until all are parsed.
     source: Source,
@@ -95,18 +179,30 @@ struct Parser {
     /// The index of the loop whose bounds are being read, which they do not see.
     own_index: Option<String>,
     nesting: usize,
+    version_mark: Option<Mark>,
     operator_marks: Vec<Mark>,
     array_marks: Vec<Mark>,
     item_marks: Vec<Mark>,
+    /// Of each statement the indices around it and its words.
+    statements: Vec<(Vec<String>, Range<usize>)>,
 }
 
 impl Parser {
+    /// All marks, in the order of the fields.
+    fn marks(self) -> Vec<Mark> {
+        let mut marks = Vec::from_iter(self.version_mark);
+        marks.extend(self.operator_marks);
+        marks.extend(self.array_marks);
+        marks.extend(self.item_marks);
+        marks
+    }
+
     fn peek(&self) -> &Token {
-        &self.tokens[self.at].0
+        &self.words[self.at].token
     }
 
     fn position(&self) -> Position {
-        self.tokens[self.at].1
+        self.words[self.at].at
     }
 
     /// An error at the next token.
@@ -138,8 +234,8 @@ impl Parser {
 
     /// Whether the sign stands behind the next token.
     fn is_followed_by(&self, sign: &str) -> bool {
-        let behind = self.tokens.get(self.at + 1);
-        behind.is_some_and(|(token, _)| matches!(token, Token::Sign(next) if *next == sign))
+        let behind = self.words.get(self.at + 1);
+        behind.is_some_and(|word| matches!(word.token, Token::Sign(next) if next == sign))
     }
 
     /// Takes the sign if it comes next.
@@ -228,7 +324,7 @@ impl Parser {
     /// The version, where the text begins with it. The word is not reserved: what else begins with it
     /// here is no version.
     fn version(&mut self) -> Result<Option<Mark>, Error> {
-        let number = self.tokens.get(1).map(|(token, _)| token);
+        let number = self.words.get(1).map(|word| &word.token);
         let given = matches!(number, Some(Token::Number(_) | Token::Sign("-")));
         if !given || !self.take_word("version") {
             return Ok(None);
@@ -424,9 +520,11 @@ impl Parser {
 
     fn statement(&mut self) -> Result<Item, Error> {
         self.mark("statement");
+        let first = self.at;
         let (target, subscripts) = self.element("target")?;
         self.sign("=")?;
         let value = self.expression()?;
+        self.statements.push((self.names.indices.clone(), first..self.at));
         Ok(Item::Statement(Statement { target, subscripts, value }))
     }
 
@@ -484,12 +582,12 @@ impl Parser {
             let name = self.number_in("name", 0..=i64::from(u32::MAX), "")?;
             return Ok(Expression::Constant(name as u32));
         }
-        match (self.peek(), self.tokens.get(self.at + 1)) {
-            (Token::Name(name), Some((Token::Sign("("), _))) => {
+        match (self.peek(), self.words.get(self.at + 1).map(|word| &word.token)) {
+            (Token::Name(name), Some(Token::Sign("("))) => {
                 let name = name.clone();
                 return self.deeper(|parser| parser.operator(name));
             }
-            (Token::Name(_), Some((Token::Sign("["), _))) => {
+            (Token::Name(_), Some(Token::Sign("["))) => {
                 self.mark("read");
                 let (array, subscripts) = self.element("array")?;
                 return Ok(Expression::Read { array, subscripts });

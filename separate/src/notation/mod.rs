@@ -5,7 +5,7 @@ mod asm;
 mod dis;
 mod token;
 
-pub use asm::{assemble, parse, places, Place};
+pub use asm::{assemble, names, parse, places, statements, Name, Place, Spelled};
 pub use dis::{disassemble, disassemble_with_places, print};
 pub use token::{Error, Position};
 

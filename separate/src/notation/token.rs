@@ -1,6 +1,7 @@
 //! The words of a text, with the places they stand at.
 
 use std::fmt;
+use std::ops::Range;
 
 /// Line and column, both from 1; columns count characters.
 #[derive(Clone, Copy, Debug, PartialEq, Eq)]
@@ -49,23 +50,36 @@ impl fmt::Display for Token {
 
 const SIGNS: [&str; 13] = [">=", "/", "=", "[", "]", "(", ")", "{", "}", ",", "+", "-", "*"];
 
+/// A word of a text, where it stands, and its bytes there.
+#[derive(Clone, Debug, PartialEq, Eq)]
+pub struct Word {
+    pub token: Token,
+    pub at: Position,
+    pub bytes: Range<usize>,
+}
+
 /// The words of a text; the last is the end, which stands behind the last line.
-pub fn tokens(text: &str) -> Result<Vec<(Token, Position)>, Error> {
-    let mut tokens = Vec::new();
+pub fn words(text: &str) -> Result<Vec<Word>, Error> {
+    let mut words = Vec::new();
     let mut end = Position { line: 1, column: 1 };
-    for (number, line) in text.lines().enumerate() {
-        let mut at = Position { line: number + 1, column: 1 };
+    let mut start = 0;
+    for (number, whole) in text.split_inclusive('\n').enumerate() {
+        let line =
+            whole.strip_suffix('\n').map_or(whole, |line| line.strip_suffix('\r').unwrap_or(line));
         let code = line.split('#').next().unwrap_or("");
+        let mut at = Position { line: number + 1, column: 1 };
         let mut rest = skip(code, code.trim_start(), &mut at);
         while !rest.is_empty() {
             let (token, behind) = token(rest).map_err(|message| Error { at, message })?;
-            tokens.push((token, at));
+            let [first, last] = [rest, behind].map(|left| start + code.len() - left.len());
+            words.push(Word { token, at, bytes: first..last });
             rest = skip(rest, behind.trim_start(), &mut at);
         }
         end = Position { line: number + 1, column: 1 + line.chars().count() };
+        start += whole.len();
     }
-    tokens.push((Token::End, end));
-    Ok(tokens)
+    words.push(Word { token: Token::End, at: end, bytes: text.len()..text.len() });
+    Ok(words)
 }
 
 /// Moves on to the rest of a line.
