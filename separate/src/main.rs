@@ -255,10 +255,12 @@ fn random_batches(count: &str, seed: &str) -> Outcome {
 
 fn standard_text() -> Result<String, String> {
     String::from_utf8(standard_input()?).map_err(|error| {
-        let text = String::from_utf8_lossy(&error.as_bytes()[..error.utf8_error().valid_up_to()]);
+        let valid = error.utf8_error().valid_up_to();
+        let text = String::from_utf8_lossy(&error.as_bytes()[..valid]);
         let line = 1 + text.matches('\n').count();
         let column = 1 + text.rsplit('\n').next().map_or(0, |rest| rest.chars().count());
-        format!("line {line}, column {column}: a byte that is not UTF-8")
+        let byte = error.as_bytes()[valid];
+        format!("line {line}, column {column}: not UTF-8: byte {byte:02X}, as Latin-1 has")
     })
 }
 

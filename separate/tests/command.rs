@@ -267,7 +267,10 @@ fn asm_and_dis() {
     assert!(wrong.stdout.is_empty());
     let wrong = separate(&["asm"], b"array A in [1]\n# \xFF\n");
     assert_eq!(wrong.status.code(), Some(2));
-    assert!(text(&wrong.stderr).starts_with("line 2, column 3: "));
+    let message = "line 2, column 3: not UTF-8: byte FF, as Latin-1 has\n";
+    assert_eq!(text(&wrong.stderr), message);
+    let wrong = separate(&["asm"], b"# gr\xC3\xBC\xDFe\n");
+    assert!(text(&wrong.stderr).starts_with("line 1, column 6: not UTF-8: byte DF, "));
     let wrong = separate(&["dis"], &L[..33]);
     assert_eq!(wrong.status.code(), Some(2));
     assert_eq!(text(&wrong.stderr), "refused 3 33\n");

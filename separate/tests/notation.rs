@@ -195,7 +195,6 @@ fn errors_of_declarations() {
         "op f/2\narray A in [2]\n",
         &[
             (3, 1, "? ", "'?' is no sign of the notation and begins no name or number"),
-            (3, 1, "\u{e9}", "'\u{e9}' is no sign of the notation and begins no name or number"),
             (3, 6, "op g/256", "the arity 256 is outside 0 to 255 (1 to 4 are allowed)"),
             (3, 6, "op g/-1", "the arity -1 is outside 0 to 255 (1 to 4 are allowed)"),
             (3, 6, "op g/x", "expected a number, the arity, found 'x'"),
@@ -372,6 +371,80 @@ fn errors_of_expressions() {
         let column = if wrong.is_empty() { 1 } else { column };
         assert_eq!(error(&text), (line, column, message), "{wrong:?}");
     }
+}
+
+/// Each stands at the start, between words, in a comment and at the end.
+#[test]
+fn characters_that_may_not_stand() {
+    let allowed = "may not stand in a text, comments included: allowed are blank, tab, LF, CR LF \
+                   and visible characters";
+    // Control characters, blanks, line ends of other systems, signs without width, other orders.
+    for character in "\0\u{1}\u{8}\u{b}\u{c}\r\u{e}\u{1b}\u{1c}\u{1f}\u{7f}\u{80}\u{85}\u{9f}\u{a0}\
+         \u{ad}\u{61c}\u{115f}\u{1160}\u{1680}\u{180e}\u{2000}\u{2003}\u{200a}\u{200b}\u{200c}\u{200d}\
+         \u{200e}\u{200f}\u{2028}\u{2029}\u{202a}\u{202e}\u{202f}\u{205f}\u{2060}\u{2064}\u{2066}\
+         \u{2069}\u{206f}\u{2800}\u{3000}\u{3164}\u{feff}\u{ffa0}\u{fff9}\u{1343f}\u{1d173}\u{e0001}\
+         \u{e007f}"
+        .chars()
+    {
+        let what = if character == '\r' { ", a CR without LF behind it," } else { "" };
+        let sign = format!("U+{:04X}", u32::from(character));
+        let mark = if character == '\u{feff}' { ", a byte order mark," } else { what };
+        for (line, column, what, text) in [
+            (1, 1, mark, format!("{character}array A in [2]")),
+            (2, 1, what, format!("\r\n{character}array A in [2]")),
+            (2, 6, what, format!("op f/1\narray{character}A in [2]")),
+            (1, 19, what, format!("array A in [2] # \u{e9}{character}A[0] = 1\n? ")),
+            (3, 3, what, format!("array A in [2]\n\n #{character}")),
+        ] {
+            let message = format!("{sign}{what} {allowed}");
+            assert_eq!(error(&text), (line, column, message), "{text:?}");
+        }
+    }
+    assert_eq!(error("array A in [2]\r\r\n").1, 15);
+    let bare = "array A in [2] array B out [2] B[0] = A[0]";
+    for other in [
+        "\tarray A in [2]\r\narray B\tout [2]\r\n\r\nB[0] = A[0]\t",
+        "array A in [2] array B out [2] # \u{e9} e\u{301} \u{6f22} \u{26a0}\u{fe0f} \u{1f600}\r\n B[0] = A[0]",
+    ] {
+        assert_eq!(asm(other), asm(bare), "{other:?}");
+    }
+}
+
+/// Letters that look like others, and digits of other scripts.
+#[test]
+fn names_and_numbers_are_ascii() {
+    for (line, column, wrong, sign) in [
+        (1, 7, "array \u{391} in [2]", "'\u{391}' (U+0391)"),
+        (1, 8, "array R\u{435}d in [2]", "'\u{435}' (U+0435)"),
+        (2, 1, "array A in [2]\n\u{e9}[0] = 1", "'\u{e9}' (U+00E9)"),
+        (1, 13, "array A in [\u{ff12}]", "'\u{ff12}' (U+FF12)"),
+        (1, 15, "array A in [2]\u{ff03} comment", "'\u{ff03}' (U+FF03)"),
+    ] {
+        let message = format!(
+            "{sign} may stand in comments alone: names are of ASCII letters, digits and '_'"
+        );
+        assert_eq!(error(wrong), (line, column, message), "{wrong:?}");
+    }
+}
+
+#[test]
+fn leading_zeros() {
+    let head = "array A out [16]\n";
+    for (column, wrong, number, right) in [
+        (3, "A[007] = 1", "007", "7"),
+        (3, "A[00] = 1", "00", "0"),
+        (9, "A[0] = -01", "01", "1"),
+        (8, "A[0] = 000", "000", "0"),
+        (14, "A[0] = const 010", "010", "10"),
+        (8, "A[0] = 00000000000000000000001", "00000000000000000000001", "1"),
+        (27, "for i = 0 to 1 step 1 { A[01*i] = 1 }", "01", "1"),
+        (9, "if 1 >= 00 { }", "00", "0"),
+    ] {
+        let message = format!("the number {number} has a leading zero: write {right}");
+        assert_eq!(error(&format!("{head}{wrong}")), (2, column, message), "{wrong:?}");
+    }
+    let same = asm(&format!("{head}A[10] = const 0 A[0] = 0"));
+    assert_eq!(asm(&format!("{head}A[0x0A] = const 0x00 A[0x0000] = 0x0")), same);
 }
 
 #[test]
