@@ -41,8 +41,8 @@ tengmua: do two loop programs leave the same values?
   tengmua --help
 
 LEFT and RIGHT are program files (docs/FORMAT.md) or texts in the notation of separate/README.md. A file is a program file if it
-begins with ALP or holds a byte that no text holds; --bytes takes both as program files. A name that is one of the options stands
-behind --. Options stand before the names, each once.
+begins with ALP, or its first 64 bytes are not those of a text; --bytes takes both as program files. A name that is one of the
+options stands behind --. Options stand before the names, each once.
 
 One line goes to standard output:
 
@@ -137,7 +137,13 @@ LOCAL = 3  # the byte of the role of arrays that the other side need not have
 ALL = 0xFFFF  # the mask of all arrays
 MARKED = 0x82  # the byte of an operator of two arguments that may swap
 TEXT = 1 << 20  # bytes of the longest text that is taken
-NO_TEXT = re.compile(rb'[\x00-\x08\x0b\x0c\x0e-\x1f\x7f]')
+CONTROL = bytes([*range(9), *range(14, 32)])  # bytes of which a program file has many, and a text none
+HEAD = 64  # so many bytes at the start of a file are looked at for them
+FEW = 16  # in what is taken for a text no more than one in so many is such a byte
+# What a text in an encoding that is not taken may begin with. The mark of UTF-32 begins with that of UTF-16.
+WIDE_MARKS = ((codecs.BOM_UTF32_LE, 'UTF-32'), (codecs.BOM_UTF32_BE, 'UTF-32'), (codecs.BOM_UTF16_LE, 'UTF-16'),
+              (codecs.BOM_UTF16_BE, 'UTF-16'))
+ASCII = frozenset(map(chr, [9, 10, 13, *range(32, 127)]))  # the characters of code in a text
 NUMBER = rb'(0|[1-9][0-9]*)'
 REPLY = re.compile(b'equal %s\n|differs %s %s\n|refused (left|right|both|input) %s %s\n' % ((NUMBER,) * 5))
 PLACE = rb'(0|[1-9][0-9]{0,4})'
@@ -359,7 +365,7 @@ def read_file(name, as_bytes, pipes):
                     raise Failure(f'{shown(name)}: the same pipe as a file before it, and it can be read only once')
                 pipes.add((state.st_dev, state.st_ino))
             data = read_most(fd, PROGRAM + 1)
-            if not as_bytes and may_be_text(data):
+            if not as_bytes and is_text(data):
                 data += read_most(fd, TEXT + 1 - len(data))
         finally:
             os.close(fd)
@@ -372,19 +378,25 @@ def read_file(name, as_bytes, pipes):
     return File(name, None, data)
 
 
-def may_be_text(data):
-    return not b'ALP'.startswith(data[:3]) and not NO_TEXT.search(data)
-
-
 def is_text(data):
-    """Whether a file is in the text notation: it has no byte that a text can't have, and no mark of a program file."""
-    if not may_be_text(data):
+    """Whether a file is in the text notation, be it with faults: it has no mark of a program file and hardly any control byte."""
+    head = data[:HEAD]
+    if b'ALP'.startswith(head[:3]):
         return False
-    try:
-        codecs.getincrementaldecoder('utf-8')().decode(data, len(data) <= TEXT)
-    except UnicodeDecodeError:
-        return False
-    return True
+    few = FEW * (len(head) - len(head.translate(None, CONTROL))) <= len(head)
+    return few or wide_encoding(data[:PROGRAM + 1]) is not None
+
+
+def wide_encoding(data):
+    """UTF-16 or UTF-32 if the bytes are a text in it: they begin with its mark, or more than half of the characters are ASCII."""
+    for start, name in WIDE_MARKS:
+        if data.startswith(start):
+            return name
+    for codec in ('utf-32-le', 'utf-32-be', 'utf-16-le', 'utf-16-be') if b'\0' in data else ():
+        characters = data.decode(codec, 'replace')
+        if 2 * sum(character in ASCII for character in characters) > len(characters):
+            return codec[:6].upper()
+    return None
 
 
 # ---- what is built
@@ -643,6 +655,9 @@ def message_of(done):
 
 def assemble(file):
     """Puts the bytes of a text in its place."""
+    wide = wide_encoding(file.text[:PROGRAM + 1])
+    if wide is not None:
+        raise Failure(f'{shown(file.name)}: this is {wide}, and a text is UTF-8 (--bytes takes any file as a program file)')
     done = ran(program(Separate), ['asm'], file.text)
     if done.returncode != 0:
         raise Failure(f'{shown(file.name)}: {message_of(done)}')
