@@ -26,11 +26,11 @@ import time
 HELP = """\
 tengmua: do two loop programs leave the same values?
 
-  tengmua [--mask BITS | --all] [--explain] [--places] [--bytes] [--unproved] [--] LEFT RIGHT
+  tengmua [--mask BITS | --all] [--by-number] [--explain] [--places] [--bytes] [--unproved] [--] LEFT RIGHT
   tengmua [--mask BITS | --all] [--explain] [--places] [--unproved] -
                                 a framed pair on standard input: the left's length in two bytes, the left, the right
-  tengmua --batch [--bytes] [--unproved] [--part K/N --out DIR] [--] LEFT RIGHT [LEFT RIGHT ...]
-  tengmua --batch [--bytes] [--unproved] [--part K/N --out DIR] [--] DIRECTORY
+  tengmua --batch [--by-number] [--bytes] [--unproved] [--part K/N --out DIR] [--] LEFT RIGHT [LEFT RIGHT ...]
+  tengmua --batch [--by-number] [--bytes] [--unproved] [--part K/N --out DIR] [--] DIRECTORY
                                 many pairs: a line for each, and a last line with totals
   tengmua --batch [--unproved] -
                                 pairs on standard input, one after another: the lengths of the left and of the right, two bytes
@@ -43,6 +43,9 @@ tengmua: do two loop programs leave the same values?
 LEFT and RIGHT are program files (docs/FORMAT.md) or texts in the notation of separate/README.md. A file is a program file if it
 begins with ALP, or its first 64 bytes are not those of a text; --bytes takes both as program files. A name that is one of the
 options stands behind --. Options stand before the names, each once.
+
+Arrays and operators of the two correspond by number, in the order of their declarations. Two texts that name a number differently,
+but for local arrays, have no reply: --by-number compares them all the same.
 
 One line goes to standard output:
 
@@ -67,6 +70,7 @@ why no element was compared.
                   letters, and may begin with 0x. Arrays count from 0 as they are declared, and the lowest bit is array 0: 1 is
                   array 0, 2 array 1, 5 arrays 0 and 2. Bits of in and local arrays, and above the last array, mean nothing
   --all           compare all out and inout arrays: the same as --mask FFFF
+  --by-number     compare two texts though they name arrays or operators differently
   --explain       on `differs`, a second line for the left program and a third for the right: the statement that wrote the
                   element last, or that none did
 
@@ -153,6 +157,7 @@ ORIGIN = rb'(?:starting \1 \2|written \1 \2 %s %s%s)\n' % (PLACE, PLACE, VALUES)
 EXPLAINED = re.compile(rb'differs %s %s\n%s%s' % (NUMBER, NUMBER, ORIGIN, ORIGIN))
 PLACED = re.compile(r'^ *(.*?) *# (?:end )?at ([0-9]+)$', re.MULTILINE)  # a line of `separate dis --places`
 SIDES = ('left', 'right')
+KINDS = {'op': 'operator', 'array': 'array'}  # what a text declares, by the word that begins it
 STATUS = {b'equal': 0, b'differs': 1, b'refused': 2}
 # The replies behind which `batch` takes no further pair: the stream is cut, or a stated length is above its limit.
 ENDING = re.compile(rb'refused (?:input 1|(?:left|right) 2) 0\n')
@@ -162,7 +167,7 @@ PART_FILE = re.compile(rb'part-%s-of-%s' % (COUNT, COUNT))
 # The first line of a part's file: which part it is, how many pairs it and the release have, and of what and by what it was made.
 RECORD = re.compile(rb'part %s of %s pairs %s of %s release %s checker %s command %s (proved|NOT PROVED)\n'
                     % (*(COUNT,) * 4, *(HEX,) * 3))
-RELEASED = ('--bytes',)  # options that change what is asked of a release: its digest holds them
+RELEASED = ('--by-number', '--bytes')  # options that change what is asked of a release: its digest holds them
 BITS = re.compile('(?:0x)?([0-9A-Fa-f]{1,4})')
 SIDED = re.compile(rb'(.+)\.(left|right)(?:\.[^.]+)?', re.DOTALL)  # the name of a file of a pair: NAME, side
 TWICE_SIDED = re.compile(rb'.+\.(?:left|right)\.(?:left|right)', re.DOTALL)  # the last word may be the side or EXT
@@ -174,11 +179,12 @@ CALLS = {
     '--question': ('', lambda count: count == 0, ()),
     '--totals': (' DIR', lambda count: count == 1, ('--unproved',)),
     '--batch': (' DIRECTORY or LEFT RIGHT...', lambda count: count == 1 or count > 0 and count % 2 == 0,
-                ('--bytes', '--unproved', '--part', '--out')),
-    '': (' LEFT RIGHT', lambda count: count == 2, ('--mask', '--all', '--explain', '--places', '--bytes', '--unproved')),
+                ('--by-number', '--bytes', '--unproved', '--part', '--out')),
+    '': (' LEFT RIGHT', lambda count: count == 2,
+         ('--mask', '--all', '--by-number', '--explain', '--places', '--bytes', '--unproved')),
 }
 OPTIONS = {option for made, (_, _, others) in CALLS.items() for option in (made, *others)} - {''}
-OF_FILES = ('--bytes', '--part', '--out')  # these speak of files: they do not go with `-`
+OF_FILES = ('--by-number', '--bytes', '--part', '--out')  # these speak of files: they do not go with `-`
 TOGETHER = {'--part': '--out', '--out': '--part'}  # each asks for the other
 # What would have a say in where the scripts of `rt` go, where cargo puts what it builds, and what that is.
 UNWANTED = ('CDPATH', 'CARGO_BUILD_TARGET', 'CARGO_BUILD_TARGET_DIR', 'CARGO_TARGET_DIR', 'CARGO_BUILD_BUILD_DIR',
@@ -664,13 +670,51 @@ def assemble(file):
     file.bytes = done.stdout[:PROGRAM + 1]
 
 
-def read_pair(names, as_bytes, pipes):
-    """Both files of a pair, with the bytes of their programs."""
+def read_pair(names, as_bytes, pipes, by_number=False):
+    """Both files of a pair, with the bytes of their programs. Two texts name each number alike, unless they go by number."""
     files = [read_file(name, as_bytes, pipes) for name in names]
     for file in files:
         if file.text is not None:
             assemble(file)
+    if not by_number and all(file.text is not None for file in files):
+        check_names(*files)
     return files
+
+
+def rows_of(file, option):
+    """What `separate asm` says of a text with an option, line by line."""
+    done = ran(program(Separate), ['asm', option], file.text)
+    if done.returncode != 0:
+        raise Failure(f'{shown(file.name)}: {message_of(done)}')
+    return [line.split('\t') for line in done.stdout.decode().splitlines()]
+
+
+class Declared:
+    """An operator or array of a text: name, arity or role, and where its name stands."""
+
+    def __init__(self, name, kind, line, column):
+        self.name, self.kind = name, kind
+        self.where = f'line {line}, column {column}'
+
+
+def declared_in(file):
+    """The operators and the arrays of a text, each in a list by number."""
+    rows = [row for row in rows_of(file, '--names') if len(row) == 6]
+    found = {word: [Declared(*row[2:]) for row in rows if row[0] == word] for word in KINDS}
+    behind = 6 + len(found['op'])
+    if [len(found[word]) for word in KINDS] != [*file.bytes[5:6], *file.bytes[behind:behind + 1]]:
+        raise Failure(f'{shown(file.name)}: separate asm --names does not say what the text declares')
+    return found
+
+
+def check_names(left, right):
+    """Fails where two texts name a number differently: for what the programs compare, they are the same."""
+    both = declared_in(left), declared_in(right)
+    for word, what in KINDS.items():
+        for number, (one, other) in enumerate(zip(both[0][word], both[1][word])):
+            if one.name != other.name and 'local' not in (one.kind, other.kind):
+                raise Failure(f'{what} {number} is {one.name} in {shown(left.name)} and {other.name} in {shown(right.name)}: '
+                              'files correspond by number, and not by name; --by-number compares all the same')
 
 
 def framed(left, right):
@@ -763,26 +807,23 @@ class Names:
 
     def __init__(self, file):
         self.file = file
-        self.rows = []
-        if file.text is not None:
-            done = ran(program(Separate), ['asm', '--places'], file.text)
-            self.rows = [line.split('\t') for line in done.stdout.decode().splitlines()]
 
     def at(self, place):
         """Where a place is: in a text, at the last field that begins there or before."""
-        found = [row for row in self.rows if int(row[0]) <= place]
+        rows = [] if self.file.text is None else rows_of(self.file, '--places')
+        found = [row for row in rows if int(row[0]) <= place]
         where = f'line {found[-1][1]}, column {found[-1][2]}' if found else f'place {place}'
         return f'{shown(self.file.name)}: {where}'
 
-    def declared(self, what, number):
+    def declared(self, word, number):
         """Name and place in the text of a declared array, no local, or operator; without a text the names of `separate dis`."""
-        known, name = (arrays_of, chr(ord('A') + number)) if what == 'role' else (operators_of, f'f{number}')
+        known, name = (arrays_of, chr(ord('A') + number)) if word == 'array' else (operators_of, f'f{number}')
         if number >= len(known(self.file.bytes)):
             return None, shown(self.file.name)
         if self.file.text is None:
             return name, shown(self.file.name)
-        rows = [row for row in self.rows if row[3].startswith(what + ' ')]
-        return rows[number][3].split(' ')[1], f'{shown(self.file.name)}: line {rows[number][1]}, column {rows[number][2]}'
+        one = declared_in(self.file)[word][number]
+        return one.name, f'{shown(self.file.name)}: {one.where}'
 
 
 def arrays_of(data):
@@ -812,7 +853,7 @@ def element(name, extents, cell):
 
 def explain_differs(array, cell, files, origins):
     role, extents = arrays_of(files[0].bytes)[array]
-    names = [Names(file).declared('role', array)[0] for file in files]
+    names = [Names(file).declared('array', array)[0] for file in files]
     both = [element(name, extents, cell) for name in names]
     say(f'the first difference is in {both[0]}' + ('' if names[0] == names[1] else f' (on the right {both[1]})'))
     for file, what, origin in zip(files, both, origins):
@@ -840,12 +881,12 @@ def explain_refused(side, number, place, files, places):
             explain_place(file, place)
         return
     if number in (22, 23):
-        what, word = ('role', 'array') if number == 22 else ('arity', 'operator')
+        word = 'array' if number == 22 else 'op'
         for file in files:
-            name, where = Names(file).declared(what, place)
+            name, where = Names(file).declared(word, place)
             if name and number == 23:
                 name += operators_of(file.bytes)[place]
-            say(f'{where}: {word} {place}' + (f', {name}' if name else ' is not there'))
+            say(f'{where}: {KINDS[word]} {place}' + (f', {name}' if name else ' is not there'))
     say(f'question {number}: {question}')
 
 
@@ -1046,8 +1087,8 @@ def part_of(pairs, number=1, parts=1):
 class Frames:
     """Pairs as `batch` reads them, each taken from its files when its turn comes. A program that is too long ends the run."""
 
-    def __init__(self, pairs, before, as_bytes, part=None, digests=None):
-        self.pairs, self.as_bytes = pairs, as_bytes
+    def __init__(self, pairs, before, as_bytes, by_number=False, part=None, digests=None):
+        self.pairs, self.as_bytes, self.by_number = pairs, as_bytes, by_number
         self.before = before  # so many pairs stand before the first
         self.part, self.digests = part, digests  # the number of the part that these are, and the digests of both files of each pair
         self.pipes = set()
@@ -1058,7 +1099,7 @@ class Frames:
         """The bytes of the next pair; none when all are read."""
         if self.ending is not None or self.count == len(self.pairs):
             return b''
-        files = read_pair(self.pairs[self.count], self.as_bytes, self.pipes)
+        files = read_pair(self.pairs[self.count], self.as_bytes, self.pipes, self.by_number)
         for file, digest in zip(files, self.digests[self.count] if self.digests else ()):
             if file.digest() != digest:
                 raise Failure(f'{shown(file.name)}: it changed while the release was being read')
@@ -1220,7 +1261,7 @@ def reply_to_many(call):
     """Compares many pairs; gives the status."""
     if '--part' in call.options:
         return reply_to_part(call)
-    frames = None if call.framed else Frames(*part_of(pairs_of(call.names)), '--bytes' in call.options)
+    frames = None if call.framed else Frames(*part_of(pairs_of(call.names)), '--bytes' in call.options, '--by-number' in call.options)
     return run_batch(checker_of(call), frames, write_out)
 
 
@@ -1284,7 +1325,7 @@ def run_part(call, number, parts, put):
     reader = digest_of_files(['tools/tengmua.py'], Separate.sources().encode())
     put(f'part {number} of {parts} pairs {len(mine)} of {len(pairs)} release {release} checker {checker} command {reader} '
         f'{"NOT PROVED" if mark else "proved"}\n'.encode())
-    return run_batch(command, Frames(mine, first, '--bytes' in call.options, number, digests), put)
+    return run_batch(command, Frames(mine, first, '--bytes' in call.options, '--by-number' in call.options, number, digests), put)
 
 
 def digests_of(call, pairs, kept_of):
@@ -1463,7 +1504,7 @@ def reply(call):
         files = framed_files(data)
     else:
         ask_for_pipes(call.names)
-        files = read_pair(call.names, '--bytes' in call.options, set())
+        files = read_pair(call.names, '--bytes' in call.options, set(), '--by-number' in call.options)
         data = framed(files[0].bytes, files[1].bytes)
     name, before = asked(call)
     output, origins = ask(name, before + data, files, '--unproved' in call.options)
