@@ -78,10 +78,10 @@ why no element was compared.
                     right: starting content
 
                   Bytes count from 0: the statement's first, and the first behind it. Then each index around it, outermost
-                  first, with its value (none outside of loops). Then the statement in the text that `separate dis` makes of
-                  the program, with that text's names for arrays (A, B), operators (f0, f1) and indices (i, j). Standard error
-                  has the line and column in a text, and says which side does not write an out element. Where `separate`
-                  can't be built a difference has no reply
+                  first, with its value (none outside of loops). Then the statement: of a text its own, on one line; of a
+                  program file that of the text that `separate dis` makes of it, with names for arrays (A, B), operators (f0,
+                  f1) and indices (i, j). Standard error has the line and column in a text, and says which side does not write
+                  an out element. Where `separate` can't be built a difference has no reply
   --places        on `refused`, the line for a program file too, in the text that `separate dis --places` makes of it
   --unproved      ask the separately written program, which is not proved but is built in seconds; each line on standard error
                   says so
@@ -686,7 +686,7 @@ def rows_of(file, option):
     done = ran(program(Separate), ['asm', option], file.text)
     if done.returncode != 0:
         raise Failure(f'{shown(file.name)}: {message_of(done)}')
-    return [line.split('\t') for line in done.stdout.decode().splitlines()]
+    return [line.split('\t') for line in done.stdout.decode('utf-8', 'replace').splitlines()]
 
 
 class Declared:
@@ -761,8 +761,14 @@ def ask(name, data, files, unproved):
 # ---- what wrote the element
 
 
-def statement_of(origin, file):
-    """An origin's statement and the names of the indices around it, in the text that `separate dis --places` makes of a program."""
+def statements_of(file):
+    """Of each statement the places of its first byte and behind its last, the names of the indices around it, and its words: those
+    of the text itself, or those that `separate dis --places` makes of a program file."""
+    if file.text is not None:
+        for row in rows_of(file, '--statements'):
+            if len(row) == 4:
+                yield row[0], row[1], row[2].split(), row[3]
+        return
     done = ran(program(Separate), ['dis', '--places'], file.bytes)
     if done.returncode != 0:
         raise Failure(f'{shown(file.name)}: {message_of(done)}')
@@ -773,9 +779,16 @@ def statement_of(origin, file):
             around.append(text.split()[:2])
         elif text == '}':
             around.pop()
-        elif ' = ' in text and (int(place), int(behind)) == (origin.start, origin.end):
-            return text, [name for word, name in around if word == 'for']
-    raise Failure(f'{shown(file.name)}: separate dis has no statement from place {origin.start} to before {origin.end}')
+        elif ' = ' in text:
+            yield place, behind, [name for word, name in around if word == 'for'], text
+
+
+def statement_of(origin, file):
+    """An origin's statement and the names of the indices around it."""
+    for start, end, names, text in statements_of(file):
+        if (start, end) == (str(origin.start), str(origin.end)):
+            return text, names
+    raise Failure(f'{shown(file.name)}: separate has no statement from place {origin.start} to before {origin.end}')
 
 
 def side_line(side, origin, file):
@@ -1261,7 +1274,8 @@ def reply_to_many(call):
     """Compares many pairs; gives the status."""
     if '--part' in call.options:
         return reply_to_part(call)
-    frames = None if call.framed else Frames(*part_of(pairs_of(call.names)), '--bytes' in call.options, '--by-number' in call.options)
+    pairs = None if call.framed else part_of(pairs_of(call.names))
+    frames = None if call.framed else Frames(*pairs, '--bytes' in call.options, '--by-number' in call.options)
     return run_batch(checker_of(call), frames, write_out)
 
 
