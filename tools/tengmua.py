@@ -50,11 +50,12 @@ but for local arrays, have no reply: --by-number compares them all the same.
 One line goes to standard output:
 
   equal N         the same value in all N compared elements, for every starting content and every meaning      status 0
+  equal 0         no element was compared, so nothing is said                                                  status 4
   differs A E     cell E of array A is the first that some content and meaning tell apart                      status 1
   refused S K P   question K has a "no" for side S (left, right, both or input) at place P                     status 2
 
 Compared are the elements of the out arrays. An inout array may be scratch, so it is compared only where --mask or --all says so.
-In and local arrays never are.
+In and local arrays never are. With `equal`, standard error names the out and inout arrays that were not compared.
 
 In and inout arrays start alike on both sides; each side has out contents of its own. So a compared out element that a side does not
 write is a difference, also where neither side writes it.
@@ -92,9 +93,9 @@ totals; C adds up the compared elements of the equal pairs:
   pairs N equal E differs D refused R elements C
 
 Status 0: all pairs are equal; 1: some differ and none is refused; 2: some are refused; 3: there is no last line, so not all was
-compared, and standard error says why. Standard error also names each pair that is not equal, and each whose sides are one file. A
-run takes at most 65,535 pairs. A program of more than 16,384 bytes is refused and ends it, so does a stream that is cut; standard
-error says what was not compared.
+compared, and standard error says why; 4: all pairs are equal, and the line of some is `equal 0`. Standard error also names each
+pair that is not equal or has that line, and each whose sides are one file. A run takes at most 65,535 pairs. A program of more than
+16,384 bytes is refused and ends it, so does a stream that is cut; standard error says what was not compared.
 
   DIRECTORY       each file below it, at any depth, is NAME.left or NAME.left.EXT, or NAME.right or NAME.right.EXT; EXT has no dot.
                   Each NAME has one of the left and one of the right in the same folder. Anything else there is a failure, before
@@ -138,6 +139,7 @@ STATEMENT = 1  # the code byte of a statement
 OUT = 1  # the byte of the role of arrays in which an element that a side does not write is a difference
 INOUT = 2  # the byte of the role of arrays that are compared under a mask only
 LOCAL = 3  # the byte of the role of arrays that the other side need not have
+COMPARED = {OUT: 'out', INOUT: 'inout'}  # the roles of arrays that can be compared
 ALL = 0xFFFF  # the mask of all arrays
 MARKED = 0x82  # the byte of an operator of two arguments that may swap
 TEXT = 1 << 20  # bytes of the longest text that is taken
@@ -159,6 +161,8 @@ PLACED = re.compile(r'^ *(.*?) *# (?:end )?at ([0-9]+)$', re.MULTILINE)  # a lin
 SIDES = ('left', 'right')
 KINDS = {'op': 'operator', 'array': 'array'}  # what a text declares, by the word that begins it
 STATUS = {b'equal': 0, b'differs': 1, b'refused': 2}
+EMPTY = b'equal 0'  # the reply where no element was compared
+NOTHING = 4  # its status, and that of many pairs which are equal where this is the reply to one
 # The replies behind which `batch` takes no further pair: the stream is cut, or a stated length is above its limit.
 ENDING = re.compile(rb'refused (?:input 1|(?:left|right) 2) 0\n')
 PART = re.compile('([0-9]{1,9})/([0-9]{1,9})')
@@ -821,6 +825,10 @@ class Names:
     def __init__(self, file):
         self.file = file
 
+    @functools.cached_property
+    def declarations(self):
+        return declared_in(self.file)
+
     def at(self, place):
         """Where a place is: in a text, at the last field that begins there or before."""
         rows = [] if self.file.text is None else rows_of(self.file, '--places')
@@ -835,7 +843,7 @@ class Names:
             return None, shown(self.file.name)
         if self.file.text is None:
             return name, shown(self.file.name)
-        one = declared_in(self.file)[word][number]
+        one = self.declarations[word][number]
         return one.name, f'{shown(self.file.name)}: {one.where}'
 
 
@@ -915,12 +923,22 @@ def explain_place(file, place):
             say(f'{shown(file.name)}: place {place} is line {number} of its text (separate dis --places): {text}')
 
 
-def explain_nothing(file, mask):
-    """Why no element was compared: each array has some, so no array was."""
-    roles = {role for role, _ in arrays_of(file.bytes)}
+def explain_equal(count, file, mask):
+    """Which out and inout arrays were not compared, and why where none was: each of them has elements."""
+    arrays = [(number, role) for number, (role, _) in enumerate(arrays_of(file.bytes)) if role in COMPARED]
+    others = [(number, role) for number, role in arrays if not (role == OUT if mask is None else mask >> number & 1)]
+    if others:
+        names = Names(file)
+        say('not compared: ' + ', '.join(f'{names.declared("array", number)[0]} ({COMPARED[role]})' for number, role in others))
+    if count == 0:
+        explain_nothing({role for _, role in arrays}, mask)
+
+
+def explain_nothing(roles, mask):
+    """Why no element was compared, where there are arrays with these roles that could be."""
     if mask is None:
-        why = 'no out array is declared' + ('; --all compares the inout arrays too' if INOUT in roles else '')
-    elif roles & {OUT, INOUT}:
+        why = 'no out array is declared' + ('; --all compares the inout arrays too' if roles else '')
+    elif roles:
         why = f'no out or inout array has its bit set in the mask {mask:04X}'
     else:
         why = 'no out or inout array is declared'
@@ -935,8 +953,8 @@ def explain(line, files, origins, call):
             explain_differs(int(words[1]), int(words[2]), files, origins)
         elif words[0] == 'refused':
             explain_refused(words[1], int(words[2]), int(words[3]), files, '--places' in call.options)
-        elif words[1] == '0':
-            explain_nothing(files[0], call.mask)
+        else:
+            explain_equal(int(words[1]), files[0], call.mask)
     except (Failure, OSError, LookupError, struct.error, subprocess.SubprocessError) as error:
         say(f'the reply can\'t be explained: {error}')
 
@@ -969,6 +987,7 @@ class Tally:
         self.above = above  # so many lines stand before the first
         self.counts = dict.fromkeys(STATUS, 0)
         self.elements = 0
+        self.empty = 0  # pairs of which no element was compared
         self.ending = None  # the reply that ended the run
         self.last = None
         self.rest = b''  # of a line that is not whole
@@ -981,12 +1000,13 @@ class Tally:
         return b'pairs %d equal %d differs %d refused %d elements %d\n' % (self.pairs(), *self.counts.values(), self.elements)
 
     def status(self):
-        return max(STATUS[kind] for kind, count in self.counts.items() if count)
+        return max(STATUS[kind] for kind, count in self.counts.items() if count) or (NOTHING if self.empty else 0)
 
     def add(self, other):
         for kind, count in other.counts.items():
             self.counts[kind] += count
         self.elements += other.elements
+        self.empty += other.empty
 
     def take(self, data):
         """Gives the line of each reply that these bytes complete, once it is counted."""
@@ -1011,6 +1031,7 @@ class Tally:
             self.fail('stands behind a reply that ends the run')
         self.counts[line.split()[0]] += 1
         self.elements += int(found.group(1) or 0)
+        self.empty += line == EMPTY + b'\n'
         self.ending = line if ENDING.fullmatch(line) else None
         return True
 
@@ -1181,7 +1202,7 @@ class Batch:
             if self.frames is not None and not self.frames.may_have(self.tally.pairs(), self.tally.ending):
                 raise Failure(f'{self.tally.who}: line {self.tally.pairs()} is no reply to a pair that was handed over')
             self.put(line)
-            if not line.startswith(b'equal '):
+            if not line.startswith(b'equal ') or line == EMPTY + b'\n':
                 self.name_pair(line)
             if self.frames is not None:
                 tell_same_file(self.frames.pairs[self.tally.pairs() - 1], f'pair {self.before + self.tally.pairs()}: ')
@@ -1193,10 +1214,11 @@ class Batch:
         self.errors = (self.errors + data)[:1024]
 
     def name_pair(self, line):
-        """Says which pair is not equal."""
+        """Says which pair is not equal, or that nothing of it was compared."""
         number = self.tally.pairs()
         names = '' if self.frames is None else ' '.join(map(shown, self.frames.pairs[number - 1])) + ': '
-        say(f'pair {self.before + number}: {names}{line.decode().strip()}')
+        why = ': no element was compared, since no out or inout array is declared' if line.startswith(EMPTY) else ''
+        say(f'pair {self.before + number}: {names}{line.decode().strip()}{why}')
 
     def finish(self):
         """Writes the last line if all was compared, or the run was ended by a refusal; gives the status."""
@@ -1532,7 +1554,7 @@ def reply(call):
         tell_same_file(call.names)
     line = output.split(b'\n')[0]
     explain(line, files, origins, call)
-    return STATUS[line.split()[0]]
+    return NOTHING if line == EMPTY else STATUS[line.split()[0]]
 
 
 def run():
@@ -1575,7 +1597,7 @@ def on_signal(number, _):
 
 
 def main():
-    """The status is 0 to 2 only for a reply that was written: what Python gives for an error of its own is 1."""
+    """The status is 0 to 2, or 4, only for a reply that was written: what Python gives for an error of its own is 1."""
     status = 3
     try:
         try:
