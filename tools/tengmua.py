@@ -26,7 +26,7 @@ import time
 HELP = """\
 tengmua: do two loop programs leave the same values?
 
-  tengmua [--mask BITS | --all] [--by-number] [--explain] [--places] [--bytes] [--unproved] [--] LEFT RIGHT
+  tengmua [--mask BITS | --all | --compare NAMES] [--by-number] [--explain] [--places] [--bytes] [--unproved] [--] LEFT RIGHT
   tengmua [--mask BITS | --all] [--explain] [--places] [--unproved] -
                                 a framed pair on standard input: the left's length in two bytes, the left, the right
   tengmua --batch [--by-number] [--bytes] [--unproved] [--part K/N --out DIR] [--] LEFT RIGHT [LEFT RIGHT ...]
@@ -54,8 +54,8 @@ One line goes to standard output:
   differs A E     cell E of array A is the first that some content and meaning tell apart                      status 1
   refused S K P   question K has a "no" for side S (left, right, both or input) at place P                     status 2
 
-Compared are the elements of the out arrays. An inout array may be scratch, so it is compared only where --mask or --all says so.
-In and local arrays never are. With `equal`, standard error names the out and inout arrays that were not compared.
+Compared are the elements of the out arrays. An inout array may be scratch, so it is compared only where --mask, --all or --compare
+says so. In and local arrays never are. With `equal`, standard error names the out and inout arrays that were not compared.
 
 In and inout arrays start alike on both sides; each side has out contents of its own. So a compared out element that a side does not
 write is a difference, also where neither side writes it.
@@ -67,10 +67,12 @@ Status 3: no reply, nothing on standard output, and a line on standard error tha
 reply: on `differs` the element with its subscripts, on `refused` the question and, for a text, the line and column, on `equal 0`
 why no element was compared.
 
-  --mask BITS     compare the out and inout arrays whose bit is set, and no other. BITS is 1 to 4 hex digits, with capital or small
-                  letters, and may begin with 0x. Arrays count from 0 as they are declared, and the lowest bit is array 0: 1 is
-                  array 0, 2 array 1, 5 arrays 0 and 2. Bits of in and local arrays, and above the last array, mean nothing
-  --all           compare all out and inout arrays: the same as --mask FFFF
+  --mask BITS     compare the out and inout arrays whose bit is set, and no other. BITS is 0x and 1 to 4 hex digits, with capital
+                  or small letters. Arrays count from 0 as they are declared, and the lowest bit is array 0: 0x1 is array 0, 0x2
+                  array 1, 0x5 arrays 0 and 2. Bits of in and local arrays, and above the last array, mean nothing
+  --all           compare all out and inout arrays: the same as --mask 0xFFFF
+  --compare NAMES compare the out and inout arrays that have these names in a text, and no other; NAMES are one or more, with a
+                  comma and no blank between. LEFT or RIGHT, or each of them, is a text
   --by-number     compare two texts though they name arrays or operators differently
   --explain       on `differs`, a second line for the left program and a third for the right: the statement that wrote the
                   element last, or that none did
@@ -172,11 +174,12 @@ PART_FILE = re.compile(rb'part-%s-of-%s' % (COUNT, COUNT))
 RECORD = re.compile(rb'part %s of %s pairs %s of %s release %s checker %s command %s (proved|NOT PROVED)\n'
                     % (*(COUNT,) * 4, *(HEX,) * 3))
 RELEASED = ('--by-number', '--bytes')  # options that change what is asked of a release: its digest holds them
-BITS = re.compile('(?:0x)?([0-9A-Fa-f]{1,4})')
+BITS = re.compile('0x([0-9A-Fa-f]{1,4})')
+CHOICES = ('--mask', '--all', '--compare')  # each says which arrays of one pair are compared
 SIDED = re.compile(rb'(.+)\.(left|right)(?:\.[^.]+)?', re.DOTALL)  # the name of a file of a pair: NAME, side
 TWICE_SIDED = re.compile(rb'.+\.(?:left|right)\.(?:left|right)', re.DOTALL)  # the last word may be the side or EXT
 # Options that take the word behind them, and what it is.
-VALUED = {'--question': 'N', '--mask': 'BITS', '--part': 'K/N', '--out': 'DIR'}
+VALUED = {'--question': 'N', '--mask': 'BITS', '--compare': 'NAMES', '--part': 'K/N', '--out': 'DIR'}
 # The calls, by the option that makes one: the names that stand behind it, whether so many may, and the options that go with it.
 CALLS = {
     '--help': ('', lambda count: count == 0, ()),
@@ -185,10 +188,10 @@ CALLS = {
     '--batch': (' DIRECTORY or LEFT RIGHT...', lambda count: count == 1 or count > 0 and count % 2 == 0,
                 ('--by-number', '--bytes', '--unproved', '--part', '--out')),
     '': (' LEFT RIGHT', lambda count: count == 2,
-         ('--mask', '--all', '--by-number', '--explain', '--places', '--bytes', '--unproved')),
+         ('--mask', '--all', '--compare', '--by-number', '--explain', '--places', '--bytes', '--unproved')),
 }
 OPTIONS = {option for made, (_, _, others) in CALLS.items() for option in (made, *others)} - {''}
-OF_FILES = ('--by-number', '--bytes', '--part', '--out')  # these speak of files: they do not go with `-`
+OF_FILES = ('--compare', '--by-number', '--bytes', '--part', '--out')  # these speak of files: they do not go with `-`
 TOGETHER = {'--part': '--out', '--out': '--part'}  # each asks for the other
 # What would have a say in where the scripts of `rt` go, where cargo puts what it builds, and what that is.
 UNWANTED = ('CDPATH', 'CARGO_BUILD_TARGET', 'CARGO_BUILD_TARGET_DIR', 'CARGO_TARGET_DIR', 'CARGO_BUILD_BUILD_DIR',
@@ -939,7 +942,7 @@ def explain_nothing(roles, mask):
     if mask is None:
         why = 'no out array is declared' + ('; --all compares the inout arrays too' if roles else '')
     elif roles:
-        why = f'no out or inout array has its bit set in the mask {mask:04X}'
+        why = f'no out or inout array has its bit set in the mask 0x{mask:04X}'
     else:
         why = 'no out or inout array is declared'
     say(f'no element was compared: {why}')
@@ -1462,7 +1465,6 @@ class Call:
             if option in VALUED and (not words or words[0] in OPTIONS):
                 raise Failure(f'{option}: {VALUED[option]} is asked for behind it')
             self.options[option] = words.pop(0) if option in VALUED else None
-        self.mask = mask_of(set(self.options), self.options.get('--mask'))
         self.framed = words == ['-']
         if words and words[0] == '--':
             words.pop(0)
@@ -1470,6 +1472,7 @@ class Call:
             ask_for_names(words)
         self.names = [] if self.framed else words
         self.ask_for_call(len(words))
+        self.mask = mask_of(self.options)
 
     def ask_for_call(self, count):
         """Fails where these options do not go together, or with so many names."""
@@ -1477,7 +1480,8 @@ class Call:
         names, may_be, others = CALLS[made]
         for option in self.options:
             if option not in (made, *others):
-                raise Failure(f'{option} does not go with {made}' if made else f'{option} goes with --batch alone')
+                why = 'many pairs are always compared in all out and inout arrays: ' if option in CHOICES and made == '--batch' else ''
+                raise Failure(f'{why}{option} does not go with {made}' if made else f'{option} goes with --batch alone')
             if self.framed and option in OF_FILES:
                 raise Failure(f'{option} does not go with -')
             if TOGETHER.get(option, option) not in self.options:
@@ -1499,23 +1503,48 @@ def ask_for_names(words):
             raise Failure(f'{shown(word)} is no option, and no file has this name; tengmua --help has the options')
 
 
-def mask_of(options, bits):
-    """The mask that says which out and inout arrays are compared; None where the out arrays are."""
-    if not options & {'--mask', '--all'}:
-        return None
-    if '--batch' in options:
-        raise Failure('many pairs are always compared in all out and inout arrays: neither --mask nor --all goes with --batch')
-    for other in ('--totals', '--question', '--help'):
-        if other in options:
-            raise Failure(f'--mask and --all say which arrays of one pair are compared: neither goes with {other}')
-    if bits is None:
-        return ALL
-    if '--all' in options:
-        raise Failure('--mask and --all: only one of them may stand')
-    found = BITS.fullmatch(bits)
+def mask_of(options):
+    """The mask that says which out and inout arrays are compared; None where the out arrays are, or names will say it."""
+    given = [option for option in CHOICES if option in options]
+    if len(given) > 1:
+        raise Failure(f'{" and ".join(given)}: only one of them may stand')
+    if given != ['--mask']:
+        return ALL if given == ['--all'] else None
+    found = BITS.fullmatch(options['--mask'])
     if found is None:
-        raise Failure(f'--mask {shown(bits)}: BITS is asked for, 1 to 4 hex digits, with or without 0x before them')
+        raise Failure(f'--mask {shown(options["--mask"])}: BITS is asked for, 0x and 1 to 4 hex digits, as 0x5 for arrays 0 and 2; '
+                      '--compare takes names of arrays')
     return int(found.group(1), 16)
+
+
+def mask_of_names(names, files):
+    """The mask of the arrays that have these names in the texts."""
+    texts = [file for file in files if file.text is not None]
+    if not texts:
+        raise Failure('--compare takes names of arrays in a text, and both files are program files: --mask takes bits')
+    rows = [(one, number, file) for file in texts for number, one in enumerate(declared_in(file)['array'])]
+    mask = 0
+    for place, name in enumerate(names):
+        if name in names[:place]:
+            raise Failure(f'--compare {shown(name)}: this name stands twice')
+        mask |= 1 << compared_number(name, rows)
+    return mask & ALL  # a program with an array beyond these is refused
+
+
+def compared_number(name, rows):
+    """The number of the out or inout array with this name; `rows` has each array of the texts with its number and its file."""
+    found = [row for row in rows if row[0].name == name]
+    if not found:
+        known = ', '.join(dict.fromkeys(one.name for one, _, _ in rows if one.kind in COMPARED.values()))
+        there = f'the out and inout arrays are {known} (a comma stands between two)' if known else 'no out or inout array is declared'
+        raise Failure(f'--compare {shown(name)}: no array has this name; {there}')
+    (_, number, first), (_, other, last) = found[0], found[-1]
+    if number != other:
+        raise Failure(f'--compare {name}: this is array {number} in {shown(first.name)} and array {other} in {shown(last.name)}')
+    for one, _, file in found:
+        if one.kind not in COMPARED.values():
+            raise Failure(f'--compare {name}: {one.kind} is its role in {shown(file.name)}; in and local arrays are never compared')
+    return number
 
 
 def asked(call):
@@ -1542,6 +1571,8 @@ def reply(call):
         ask_for_pipes(call.names)
         files = read_pair(call.names, '--bytes' in call.options, set(), '--by-number' in call.options)
         data = framed(files[0].bytes, files[1].bytes)
+        if '--compare' in call.options:
+            call.mask = mask_of_names(call.options['--compare'].split(','), files)
     name, before = asked(call)
     output, origins = ask(name, before + data, files, '--unproved' in call.options)
     if '--explain' not in call.options:
