@@ -29,8 +29,8 @@ tengmua: do two loop programs leave the same values?
   tengmua [--mask BITS | --all | --compare NAMES] [--by-number] [--explain] [--places] [--bytes] [--unproved] [--] LEFT RIGHT
   tengmua [--mask BITS | --all] [--explain] [--places] [--unproved] -
                                 a framed pair on standard input: the left's length in two bytes, the left, the right
-  tengmua --batch [--by-number] [--bytes] [--unproved] [--part K/N --out DIR] [--] LEFT RIGHT [LEFT RIGHT ...]
-  tengmua --batch [--by-number] [--bytes] [--unproved] [--part K/N --out DIR] [--] DIRECTORY
+  tengmua --batch [--by-number] [--bytes] [--unproved] [--jobs N | --part K/N --out DIR] [--] LEFT RIGHT [LEFT RIGHT ...]
+  tengmua --batch [--by-number] [--bytes] [--unproved] [--jobs N | --part K/N --out DIR] [--] DIRECTORY
                                 many pairs: a line for each, and a last line with totals
   tengmua --batch [--unproved] -
                                 pairs on standard input, one after another: the lengths of the left and of the right, two bytes
@@ -102,6 +102,8 @@ pair that is not equal or has that line, and each whose sides are one file. A ru
   DIRECTORY       each file below it, at any depth, is NAME.left or NAME.left.EXT, or NAME.right or NAME.right.EXT; EXT has no dot.
                   Each NAME has one of the left and one of the right in the same folder. Anything else there is a failure, before
                   anything is compared. The order is that of the folders' names and then of NAME, by their bytes
+  --jobs N        N parts of the pairs at the same time, on the cores of this machine. N is 1 to 99; more than there are pairs is
+                  one for each. The output is that of one run, but a refusal that ends a run ends its part alone
   --part K/N      the K-th of N parts of the pairs, which follow one another: the lines of all parts in order are those of one run,
                   unless a refusal ends it; then the parts behind it go on
   --out DIR       where the part is written, as part-K-of-N; the folder is made if it is not there. The file's first line is a
@@ -168,6 +170,7 @@ NOTHING = 4  # its status, and that of many pairs which are equal where this is 
 # The replies behind which `batch` takes no further pair: the stream is cut, or a stated length is above its limit.
 ENDING = re.compile(rb'refused (?:input 1|(?:left|right) 2) 0\n')
 PART = re.compile('([0-9]{1,9})/([0-9]{1,9})')
+JOBS = re.compile('[1-9][0-9]?')
 COUNT, HEX = rb'([1-9][0-9]{0,8})', rb'([0-9a-f]{64})'
 PART_FILE = re.compile(rb'part-%s-of-%s' % (COUNT, COUNT))
 # The first line of a part's file: which part it is, how many pairs it and the release have, and of what and by what it was made.
@@ -179,19 +182,19 @@ CHOICES = ('--mask', '--all', '--compare')  # each says which arrays of one pair
 SIDED = re.compile(rb'(.+)\.(left|right)(?:\.[^.]+)?', re.DOTALL)  # the name of a file of a pair: NAME, side
 TWICE_SIDED = re.compile(rb'.+\.(?:left|right)\.(?:left|right)', re.DOTALL)  # the last word may be the side or EXT
 # Options that take the word behind them, and what it is.
-VALUED = {'--question': 'N', '--mask': 'BITS', '--compare': 'NAMES', '--part': 'K/N', '--out': 'DIR'}
+VALUED = {'--question': 'N', '--mask': 'BITS', '--compare': 'NAMES', '--part': 'K/N', '--out': 'DIR', '--jobs': 'N'}
 # The calls, by the option that makes one: the names that stand behind it, whether so many may, and the options that go with it.
 CALLS = {
     '--help': ('', lambda count: count == 0, ()),
     '--question': ('', lambda count: count == 0, ()),
     '--totals': (' DIR', lambda count: count == 1, ('--unproved',)),
     '--batch': (' DIRECTORY or LEFT RIGHT...', lambda count: count == 1 or count > 0 and count % 2 == 0,
-                ('--by-number', '--bytes', '--unproved', '--part', '--out')),
+                ('--by-number', '--bytes', '--unproved', '--part', '--out', '--jobs')),
     '': (' LEFT RIGHT', lambda count: count == 2,
          ('--mask', '--all', '--compare', '--by-number', '--explain', '--places', '--bytes', '--unproved')),
 }
 OPTIONS = {option for made, (_, _, others) in CALLS.items() for option in (made, *others)} - {''}
-OF_FILES = ('--compare', '--by-number', '--bytes', '--part', '--out')  # these speak of files: they do not go with `-`
+OF_FILES = ('--compare', '--by-number', '--bytes', '--part', '--out', '--jobs')  # these speak of files: they do not go with `-`
 TOGETHER = {'--part': '--out', '--out': '--part'}  # each asks for the other
 # What would have a say in where the scripts of `rt` go, where cargo puts what it builds, and what that is.
 UNWANTED = ('CDPATH', 'CARGO_BUILD_TARGET', 'CARGO_BUILD_TARGET_DIR', 'CARGO_TARGET_DIR', 'CARGO_BUILD_BUILD_DIR',
@@ -583,20 +586,20 @@ def run_build(command, step=None, steps=0):
     """Runs a build in a process group of its own, of which nothing outlives this call."""
     with held_signals():
         child = started(command, subprocess.STDOUT, start_new_session=True)
-        guard, alive = guarded(child.pid)
-        try:
-            pass_on(child, step, steps)
-        finally:
-            end_group(child)
-            os.kill(guard, signal.SIGKILL)
-            os.waitpid(guard, 0)
-            os.close(alive)
+        with guarded(child.pid):
+            try:
+                pass_on(child, step, steps)
+            finally:
+                end_group([child.pid])
+                child.stdout.close()
+                child.wait()
     if child.returncode != 0:
         raise Failure(f'{" ".join(command[:2])} failed with status {child.returncode}: what it said is above')
 
 
+@contextlib.contextmanager
 def guarded(group):
-    """A process that kills the group should this one be killed itself: then nobody holds the other end of its pipe."""
+    """Has a process kill the group should this one be killed itself: then nobody holds the other end of its pipe."""
     reader, writer = os.pipe()
     guard = os.fork()
     if guard == 0:
@@ -609,32 +612,35 @@ def guarded(group):
         finally:
             os._exit(0)
     os.close(reader)
-    return guard, writer
+    try:
+        yield
+    finally:
+        os.kill(guard, signal.SIGKILL)
+        os.waitpid(guard, 0)
+        os.close(writer)
 
 
-def ended(child):
+def ended(pid):
     """Whether a child has ended. It stays a zombie, so that its group's number is not given to others."""
-    return os.waitid(os.P_PID, child.pid, os.WEXITED | os.WNOWAIT | os.WNOHANG) is not None
+    return os.waitid(os.P_PID, pid, os.WEXITED | os.WNOWAIT | os.WNOHANG) is not None
 
 
-def end_group(child):
-    """Ends what is left of a child's group, first by asking."""
+def end_group(pids):
+    """Ends what is left of a group, first by asking its children of this process. The first of them gave it its number."""
     with contextlib.suppress(ProcessLookupError):
-        if not ended(child):
-            os.killpg(child.pid, signal.SIGTERM)
+        if not all(map(ended, pids)):
+            os.killpg(pids[0], signal.SIGTERM)
             until = time.monotonic() + GRACE
-            while not ended(child) and time.monotonic() < until:
+            while not all(map(ended, pids)) and time.monotonic() < until:
                 time.sleep(0.02)
-        os.killpg(child.pid, signal.SIGKILL)
-    child.stdout.close()
-    child.wait()
+        os.killpg(pids[0], signal.SIGKILL)
 
 
 def pass_on(child, step, steps):
     """Each line of a build to standard error as it comes, and now and then how far it is, until it ends."""
     began = told = time.monotonic()
     done, rest, is_open = 0, b'', True
-    while is_open or not ended(child):
+    while is_open or not ended(child.pid):
         ready, _, _ = select.select([child.stdout] if is_open else [], [], [], 0.1)
         if held.came is not None:
             raise Interrupted(held.came)
@@ -646,7 +652,7 @@ def pass_on(child, step, steps):
                 tell(line)
                 done += bool(step and step.match(line))
                 told = time.monotonic()
-        elif ended(child):
+        elif ended(child.pid):
             return  # though something else holds the pipe open
         elif time.monotonic() - told > TELL_EVERY:
             told = time.monotonic()
@@ -677,13 +683,13 @@ def assemble(file):
     file.bytes = done.stdout[:PROGRAM + 1]
 
 
-def read_pair(names, as_bytes, pipes, by_number=False):
+def read_pair(names, options, pipes):
     """Both files of a pair, with the bytes of their programs. Two texts name each number alike, unless they go by number."""
-    files = [read_file(name, as_bytes, pipes) for name in names]
+    files = [read_file(name, '--bytes' in options, pipes) for name in names]
     for file in files:
         if file.text is not None:
             assemble(file)
-    if not by_number and all(file.text is not None for file in files):
+    if '--by-number' not in options and all(file.text is not None for file in files):
         check_names(*files)
     return files
 
@@ -1048,6 +1054,11 @@ class Tally:
         if self.last is None:
             raise Failure(f'{self.who}: it ends without totals, behind {self.pairs()} lines')
 
+    def ask_for_pairs(self, count):
+        """Fails where these are not the lines of so many pairs of files, or of fewer with a refusal that ends the run."""
+        if self.pairs() > count or self.pairs() < count and self.ending is None or self.ending == b'refused input 1 0\n':
+            raise Failure(f'{self.who}: {self.pairs()} replies, and no run of {count} pairs ends there')
+
 
 def pairs_below(folder):
     """The names of both files of each pair in a release. Every file below the folder belongs to a pair, or there is a failure."""
@@ -1116,7 +1127,7 @@ def part_of(pairs, number=1, parts=1):
     first, behind = stretch(len(pairs), number, parts)
     if behind - first > PAIRS:
         fewest = -(-len(pairs) // PAIRS)
-        raise Failure(f'{behind - first} pairs, and a run takes at most {PAIRS}: take them in parts, '
+        raise Failure(f'{behind - first} pairs, and a run takes at most {PAIRS}: take them in parts, by --jobs {fewest} or more or '
                       f'--part 1/{fewest} to --part {fewest}/{fewest}')
     return pairs[first:behind], first
 
@@ -1124,8 +1135,8 @@ def part_of(pairs, number=1, parts=1):
 class Frames:
     """Pairs as `batch` reads them, each taken from its files when its turn comes. A program that is too long ends the run."""
 
-    def __init__(self, pairs, before, as_bytes, by_number=False, part=None, digests=None):
-        self.pairs, self.as_bytes, self.by_number = pairs, as_bytes, by_number
+    def __init__(self, pairs, before, options, part=None, digests=None):
+        self.pairs, self.options = pairs, options
         self.before = before  # so many pairs stand before the first
         self.part, self.digests = part, digests  # the number of the part that these are, and the digests of both files of each pair
         self.pipes = set()
@@ -1136,7 +1147,7 @@ class Frames:
         """The bytes of the next pair; none when all are read."""
         if self.ending is not None or self.count == len(self.pairs):
             return b''
-        files = read_pair(self.pairs[self.count], self.as_bytes, self.pipes, self.by_number)
+        files = read_pair(self.pairs[self.count], self.options, self.pipes)
         for file, digest in zip(files, self.digests[self.count] if self.digests else ()):
             if file.digest() != digest:
                 raise Failure(f'{shown(file.name)}: it changed while the release was being read')
@@ -1299,9 +1310,125 @@ def reply_to_many(call):
     """Compares many pairs; gives the status."""
     if '--part' in call.options:
         return reply_to_part(call)
-    pairs = None if call.framed else part_of(pairs_of(call.names))
-    frames = None if call.framed else Frames(*pairs, '--bytes' in call.options, '--by-number' in call.options)
+    if '--jobs' in call.options:
+        return reply_by_jobs(call)
+    frames = None if call.framed else Frames(*part_of(pairs_of(call.names)), call.options)
     return run_batch(checker_of(call), frames, write_out)
+
+
+# ---- parts at the same time
+
+
+class Job:
+    """A part of the pairs that a process of its own compares. What it writes comes through two pipes, and waits for its turn."""
+
+    def __init__(self, work, number, count, group):
+        self.tally = Tally(f'no last line from part {number}')
+        self.count = count  # of its pairs
+        self.lines, self.said = [], b''  # what was not passed on
+        self.is_done = False
+        (self.out, out), (self.errors, errors) = os.pipe(), os.pipe()
+        self.pipes = {self.out, self.errors}  # from which more may come
+        self.pid = os.fork()
+        if self.pid == 0:
+            live(work, out, errors, group)
+        os.setpgid(self.pid, group or self.pid)  # as it does itself: who comes first does not matter
+        os.close(out)
+        os.close(errors)
+
+    def take(self, pipe):
+        """Takes what one of its pipes has."""
+        data = os.read(pipe, 65536)
+        if pipe == self.out:
+            self.lines += self.tally.take(data)
+        else:
+            self.said += data
+        if not data:
+            self.pipes.remove(pipe)
+
+    def pass_on(self):
+        """Writes what it wrote, since its turn has come. The last line that it said waits: it may be why it fails."""
+        lines, self.lines = self.lines, []
+        if lines:
+            write_out(b''.join(lines))
+        said, behind = self.said.split(b'\n'), -1 if self.is_done else -2
+        for line in said[:behind]:
+            tell(line[len(mark):])
+        self.said = b'\n'.join(said[behind:])
+
+    def finish(self):
+        """Asks how it ended, when both pipes are closed. If it failed, the last line that it said is why."""
+        state = os.waitid(os.P_PID, self.pid, os.WEXITED | os.WNOWAIT)
+        if state.si_code != os.CLD_EXITED:
+            raise Failure(f'{self.tally.who}: its process was ended by signal {state.si_status}')
+        if state.si_status == 3:
+            *said, last = [line[len(mark):] for line in self.said.rstrip(b'\n').split(b'\n')]
+            for line in said:
+                tell(line)
+            raise Failure(last[len(b'tengmua: '):].decode('utf-8', 'replace') or f'{self.tally.who}: its process failed')
+        self.tally.end()
+        self.tally.ask_for_pairs(self.count)
+        self.is_done = True
+
+
+def live(work, out, errors, group):
+    """What the process of a job does, and how it ends. The terminal is not its own, so that reading it fails."""
+    try:
+        held.depth, held.came = 0, None
+        os.setpgid(0, group)
+        signal.signal(signal.SIGTTIN, signal.SIG_IGN)
+        os.dup2(out, 1)
+        os.dup2(errors, 2)
+        os._exit(status_of(work))
+    finally:
+        os._exit(3)
+
+
+def reply_by_jobs(call):
+    """Compares parts of the pairs at the same time and writes what one run would; gives the status."""
+    if not JOBS.fullmatch(call.options['--jobs']):
+        raise Failure(f'--jobs {shown(call.options["--jobs"])}: a number from 1 to 99 is asked for')
+    pairs = pairs_of(call.names)
+    count = min(int(call.options['--jobs']), len(pairs))
+    parts = [part_of(pairs, number, count) for number in range(1, count + 1)]
+    command = checker_of(call)
+    jobs = []
+    with held_signals():
+        try:
+            for number, (mine, before) in enumerate(parts, 1):
+                work = functools.partial(run_batch, command, Frames(mine, before, call.options, number), write_out)
+                jobs.append(Job(work, number, len(mine), jobs[0].pid if jobs else 0))
+            with guarded(jobs[0].pid), open_signals():  # a job that began later would hold the guard's pipe open
+                total = follow_jobs(jobs, len(pairs))
+        finally:
+            if jobs:
+                end_group([job.pid for job in jobs])
+            wipe_progress()
+    write_out(total.totals())
+    return total.status()
+
+
+def follow_jobs(jobs, count):
+    """Passes on what jobs write, each behind the one before it, until all have ended well; gives the sum of their totals."""
+    total, waiting, ready = Tally('the sum'), list(jobs), selectors.DefaultSelector()
+    for job in jobs:
+        for pipe in job.pipes:
+            ready.register(pipe, selectors.EVENT_READ, job)
+    while waiting:
+        for key, _ in ready.select(SHOW_EVERY if os.isatty(2) else None):
+            job = key.data
+            job.take(key.fd)
+            if key.fd not in job.pipes:
+                ready.unregister(key.fd)
+            if not job.pipes:
+                job.finish()
+        while waiting:
+            waiting[0].pass_on()
+            if not waiting[0].is_done:
+                break
+            total.add(waiting.pop(0).tally)
+        show_progress(f'{sum(job.tally.pairs() for job in jobs)} of {count} pairs')
+    return total
 
 
 # ---- parts of a release, and their sum
@@ -1364,7 +1491,7 @@ def run_part(call, number, parts, put):
     reader = digest_of_files(['tools/tengmua.py'], Separate.sources().encode())
     put(f'part {number} of {parts} pairs {len(mine)} of {len(pairs)} release {release} checker {checker} command {reader} '
         f'{"NOT PROVED" if mark else "proved"}\n'.encode())
-    return run_batch(command, Frames(mine, first, '--bytes' in call.options, '--by-number' in call.options, number, digests), put)
+    return run_batch(command, Frames(mine, first, call.options, number, digests), put)
 
 
 def digests_of(call, pairs, kept_of):
@@ -1403,9 +1530,7 @@ class Part:
         if self.count != behind - self.first:
             raise Failure(f'{shown(path)}: its record says {self.count} pairs, and part {self.number} of {self.parts} of {pairs} '
                           f'pairs has {behind - self.first}')
-        compared, ending = self.tally.pairs(), self.tally.ending
-        if compared > self.count or compared < self.count and ending is None or ending == b'refused input 1 0\n':
-            raise Failure(f'{shown(path)}: {compared} replies, and no part of {self.count} pairs ends there')
+        self.tally.ask_for_pairs(self.count)
 
 
 def parts_in(folder, word):
@@ -1484,6 +1609,8 @@ class Call:
                 raise Failure(f'{why}{option} does not go with {made}' if made else f'{option} goes with --batch alone')
             if self.framed and option in OF_FILES:
                 raise Failure(f'{option} does not go with -')
+            if option in TOGETHER and '--jobs' in self.options:
+                raise Failure(f'{option} does not go with --jobs')
             if TOGETHER.get(option, option) not in self.options:
                 raise Failure(f'{option} asks for {TOGETHER[option]} {VALUED[TOGETHER[option]]} too')
         if self.framed and made not in ('--batch', ''):
@@ -1569,7 +1696,7 @@ def reply(call):
         files = framed_files(data)
     else:
         ask_for_pipes(call.names)
-        files = read_pair(call.names, '--bytes' in call.options, set(), '--by-number' in call.options)
+        files = read_pair(call.names, call.options, set())
         data = framed(files[0].bytes, files[1].bytes)
         if '--compare' in call.options:
             call.mask = mask_of_names(call.options['--compare'].split(','), files)
@@ -1590,6 +1717,7 @@ def reply(call):
 
 def run():
     global mark
+    open_standard()
     call = Call(sys.argv[1:])
     if '--help' in call.options:
         write_out(HELP.encode())
@@ -1627,17 +1755,13 @@ def on_signal(number, _):
         interrupt(number)
 
 
-def main():
-    """The status is 0 to 2, or 4, only for a reply that was written: what Python gives for an error of its own is 1."""
+def status_of(work):
+    """Does the work of a process. Its status is 0 to 2, or 4, only where that gives it: what Python gives for an error of its own is 1."""
     status = 3
     try:
         try:
-            for number in SIGNALS:
-                if signal.getsignal(number) != signal.SIG_IGN:
-                    signal.signal(number, on_signal)
             signal.pthread_sigmask(signal.SIG_UNBLOCK, SIGNALS)
-            open_standard()
-            status = run()
+            status = work()
         finally:
             signal.pthread_sigmask(signal.SIG_BLOCK, SIGNALS)
     except Interrupted as interrupted:
@@ -1651,7 +1775,14 @@ def main():
         say(plain(error))
     except BaseException as error:  # pylint: disable=broad-except
         say(f'this is a fault of tengmua itself: {type(error).__name__}: {error}'.replace('\n', ' '))
-    os._exit(status)
+    return status
+
+
+def main():
+    for number in SIGNALS:
+        if signal.getsignal(number) != signal.SIG_IGN:
+            signal.signal(number, on_signal)
+    os._exit(status_of(run))
 
 
 if __name__ == '__main__':
