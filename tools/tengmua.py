@@ -2,9 +2,10 @@
 
 A reply is written only where both programs were read whole and `pair` gave exactly one whole line, or `explain` or `masked` exactly
 those of an explained reply; all of it is written at once. Of many pairs each line is written as `batch` gives it, and the last one,
-with the totals, only where `batch` was handed all pairs and ended well, and the totals are those of the lines. Everything else is a
-line on standard error and status 3. The programs are run from private copies whose names hold the digest of the sources that they
-were proved from and the digest of their own bytes, so neither an old binary nor a damaged one answers.
+with the totals, only where `batch` was handed all pairs and ended well, and the totals are those of the lines; of pairs in parts it
+is the sum of the totals of all parts, each once. Everything else is a line on standard error and status 3. The programs are run
+from private copies whose names hold the digest of the sources that they were proved from and the digest of their own bytes, so
+neither an old binary nor a damaged one answers.
 """
 import codecs
 import contextlib
