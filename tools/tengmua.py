@@ -42,8 +42,8 @@ tengmua: do two loop programs leave the same values?
   tengmua --help
 
 LEFT and RIGHT are program files (docs/FORMAT.md) or texts in the notation of separate/README.md. A file is a program file if it
-begins with ALP, or its first 64 bytes are not those of a text; --bytes takes both as program files. A name that is one of the
-options stands behind --. Options stand before the names, each once.
+begins with ALP, or holds a byte that no text holds and not the word `array`; --bytes takes both as program files. A name that is
+one of the options stands behind --. Options stand before the names, each once.
 
 Arrays and operators of the two correspond by number, in the order of their declarations. Two texts that name a number differently,
 but for local arrays, have no reply: --by-number compares them all the same.
@@ -148,13 +148,9 @@ COMPARED = {OUT: 'out', INOUT: 'inout'}  # the roles of arrays that can be compa
 ALL = 0xFFFF  # the mask of all arrays
 MARKED = 0x82  # the byte of an operator of two arguments that may swap
 TEXT = 1 << 20  # bytes of the longest text that is taken
-CONTROL = bytes([*range(9), *range(14, 32)])  # bytes of which a program file has many, and a text none
-HEAD = 64  # so many bytes at the start of a file are looked at for them
-FEW = 16  # in what is taken for a text no more than one in so many is such a byte
-# What a text in an encoding that is not taken may begin with. The mark of UTF-32 begins with that of UTF-16.
-WIDE_MARKS = ((codecs.BOM_UTF32_LE, 'UTF-32'), (codecs.BOM_UTF32_BE, 'UTF-32'), (codecs.BOM_UTF16_LE, 'UTF-16'),
-              (codecs.BOM_UTF16_BE, 'UTF-16'))
-ASCII = frozenset(map(chr, [9, 10, 13, *range(32, 127)]))  # the characters of code in a text
+NO_TEXT = re.compile(rb'[\x00-\x08\x0b\x0c\x0e-\x1f\x7f]')
+# The encodings that a text may be in. Only the first is taken.
+ENCODINGS = ('UTF-8', 'UTF-16-LE', 'UTF-16-BE', 'UTF-32-LE', 'UTF-32-BE')
 NUMBER = rb'(0|[1-9][0-9]*)'
 REPLY = re.compile(b'equal %s\n|differs %s %s\n|refused (left|right|both|input) %s %s\n' % ((NUMBER,) * 5))
 PLACE = rb'(0|[1-9][0-9]{0,4})'
@@ -396,24 +392,26 @@ def read_file(name, as_bytes, pipes):
 
 
 def is_text(data):
-    """Whether a file is in the text notation, be it with faults: it has no mark of a program file and hardly any control byte."""
-    head = data[:HEAD]
-    if b'ALP'.startswith(head[:3]):
+    """Whether a file is in the text notation, by its first bytes: they have no mark of a program file and none that a text can't
+    have, or else the word `array`, so that it is a text with a fault."""
+    start = data[:PROGRAM + 1]
+    if b'ALP'.startswith(start[:3]):
         return False
-    few = FEW * (len(head) - len(head.translate(None, CONTROL))) <= len(head)
-    return few or wide_encoding(data[:PROGRAM + 1]) is not None
+    return is_plain(start) or encoding_of(start) is not None
 
 
-def wide_encoding(data):
-    """UTF-16 or UTF-32 if the bytes are a text in it: they begin with its mark, or more than half of the characters are ASCII."""
-    for start, name in WIDE_MARKS:
-        if data.startswith(start):
-            return name
-    for codec in ('utf-32-le', 'utf-32-be', 'utf-16-le', 'utf-16-be') if b'\0' in data else ():
-        characters = data.decode(codec, 'replace')
-        if 2 * sum(character in ASCII for character in characters) > len(characters):
-            return codec[:6].upper()
-    return None
+def is_plain(data):
+    """Whether the first bytes of a file are UTF-8, and no control characters of ASCII."""
+    try:
+        codecs.getincrementaldecoder('utf-8')().decode(data, len(data) <= PROGRAM)
+    except UnicodeDecodeError:
+        return False
+    return not NO_TEXT.search(data)
+
+
+def encoding_of(data):
+    """The encoding in which bytes have the word `array`, which no text is without."""
+    return next((name for name in ENCODINGS if 'array'.encode(name) in data), None)
 
 
 # ---- what is built
@@ -675,9 +673,9 @@ def message_of(done):
 
 def assemble(file):
     """Puts the bytes of a text in its place."""
-    wide = wide_encoding(file.text[:PROGRAM + 1])
-    if wide is not None:
-        raise Failure(f'{shown(file.name)}: this is {wide}, and a text is UTF-8 (--bytes takes any file as a program file)')
+    encoding = encoding_of(file.text)
+    if encoding not in (None, 'UTF-8'):
+        raise Failure(f'{shown(file.name)}: this is {encoding[:6]}, and a text is UTF-8 (--bytes takes any file as a program file)')
     done = ran(program(Separate), ['asm'], file.text)
     if done.returncode != 0:
         raise Failure(f'{shown(file.name)}: {message_of(done)}')
@@ -1664,7 +1662,7 @@ def compared_number(name, rows):
     found = [row for row in rows if row[0].name == name]
     if not found:
         known = ', '.join(dict.fromkeys(one.name for one, _, _ in rows if one.kind in COMPARED.values()))
-        there = f'the out and inout arrays are {known} (a comma stands between two)' if known else 'no out or inout array is declared'
+        there = f'the out and inout arrays are {known} (a comma stands between two)' if known else 'there is no out or inout array'
         raise Failure(f'--compare {shown(name)}: no array has this name; {there}')
     (_, number, first), (_, other, last) = found[0], found[-1]
     if number != other:
