@@ -1,5 +1,7 @@
 // Reads pairs of programs from standard input, one after another, and prints a line for each, then the line of the totals: `turns` of
 // the comparer. Where a read or a write fails there is no last line, only one on standard error.
+#![tactic(auto)]
+
 ghost use Rattle.std.specs.Prelude.{◌≤◌, length};
 ghost use Rattle.source.specs.Within.{Within};
 

@@ -1,4 +1,6 @@
 // Compares two update lists, or two programs: the reply of docs/FORMAT.md. Explains a difference. Counts the replies to many pairs.
+#![tactic(auto)]
+
 mod batch;
 mod compare;
 mod evaluate;

@@ -1,4 +1,6 @@
 // Reads a stream of framed pairs (separate/README.md, "Streams") from standard input and prints the line of each.
+#![tactic(auto)]
+
 use model::sizes::{CELL_WORDS, LIST_WORDS, TERM_WORDS};
 
 fn main() {

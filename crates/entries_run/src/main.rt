@@ -1,6 +1,8 @@
 // Reads a stream of records (separate/README.md, "Streams") from standard input. Each names a public entry of the reader, the store,
 // the unroller, the writer or the comparer and has arguments for it; the line of each is the entry's number and every number of its
 // answer.
+#![tactic(auto)]
+
 mod batches;
 mod cursor;
 mod explanations;

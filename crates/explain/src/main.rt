@@ -1,6 +1,8 @@
 // Reads a framed pair of programs from standard input, as `pair` does, and prints the line of the reply. Where it is a difference, the
 // line of its explanation for the left follows, and the one for the right. Where a read fails there is no line, only one on standard
 // error.
+#![tactic(auto)]
+
 use comparer::Chosen;
 use comparer::reply::Reply;
 use model::sizes::{CELL_WORDS, LIST_WORDS, TERM_WORDS};

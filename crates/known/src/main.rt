@@ -1,5 +1,7 @@
 // Reads known programs, accepted and refused, and writes what is said of each, one line each; then how many updates and nodes a
 // known program gives. The known pairs are the first of `corpus`.
+#![tactic(auto)]
+
 mod rows;
 mod unrolled;
 

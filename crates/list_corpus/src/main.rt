@@ -1,4 +1,6 @@
 // Reads a stream of list pairs (separate/README.md, "Streams") from standard input and prints the line of each.
+#![tactic(auto)]
+
 ghost use Rattle.std.specs.Prelude.{◌≤◌};
 
 use model::numbers::wide;

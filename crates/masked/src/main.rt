@@ -1,6 +1,8 @@
 // Reads a mask of two bytes and behind it a framed pair of programs, as `pair` does, and prints the line of the reply under that mask.
 // Where it is a difference, the line of its explanation for the left follows, and the one for the right. Where a read fails there is
 // no line, only one on standard error.
+#![tactic(auto)]
+
 use comparer::Chosen;
 use comparer::reply::Reply;
 use model::sizes::{CELL_WORDS, LIST_WORDS, TERM_WORDS};

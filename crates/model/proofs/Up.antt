@@ -1,15 +1,14 @@
 -- Signed numbers as naturals, raised by 2 ^ 32, so that `omega` reads their sums and orders: `up z` is z + 2 ^ 32 where z is not below -2 ^ 32.
 -- Assumes nothing.
-use mathlib.Core.Path.{◌≡◌, refl, sym, ap, ◌∙◌}
-use mathlib.Core.Bool.{Bool, true, false}
-use Prim.Native.Nat.{ℕ, zero, suc, ◌+◌, ◌-◌, ◌*◌, ◌^◌, ◌≤◌, ◌<◌}
+use mathlib.Core.Path.{◌≡◌, sym, ap, ◌∙◌}
+use Prim.Native.Nat.{ℕ, suc, ◌+◌, ◌-◌, ◌≤◌, ◌<◌}
 use native.Mathlib.Decide.{dec_le}
 use native.Mathlib.Omega.{arith}
 use borrow.Author.Tests.{le-leb, lt-leb}
 use lib.Dec.{leb}
-use lib.IntN.{ℤ, pos, negsuc, neg_ℤ, ◌+ℤ◌, nat_abs, sub_ℕ}
+use lib.IntN.{ℤ, pos, negsuc, ◌+ℤ◌, nat_abs, sub_ℕ}
 use lib.Signed.{le_z}
-use mir.Syntax.{Width, w16, w32}
+use mir.Syntax.{w16, w32}
 use mir.Val.{SFits}
 use Rattle.model.proofs.Abs.{sub-pos, sub_neg}
 

@@ -1,4 +1,6 @@
 // Tables, update lists and replies, as definitions that all crates share, and the clearing of lent memory.
+#![tactic(auto)]
+
 pub mod byte;
 pub mod memory;
 pub mod numbers;

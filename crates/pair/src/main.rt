@@ -1,5 +1,7 @@
 // Reads a framed pair of programs from standard input and prints the line of the reply. One byte more than the longest pair
 // has is read: what follows it changes no reply (`InputCut`). Where a read fails there is no reply, only a line on standard error.
+#![tactic(auto)]
+
 use model::sizes::{CELL_WORDS, LIST_WORDS, TERM_WORDS};
 use source::Got;
 

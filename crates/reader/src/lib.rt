@@ -1,5 +1,7 @@
 // Reads a program file. Plain functions on a slice and a place; each answers what the definition of the same part of the grammar says.
 // `cursor` keeps slice and place together, and the head of a file is read through it.
+#![tactic(auto)]
+
 ghost use Rattle.std.specs.Prelude.{◌≡◌};
 ghost use Rattle.reader.specs.Grammar.{read_program};
 ghost use Rattle.reader.specs.Verdicts.{said, verdict_says};

@@ -1,4 +1,6 @@
 // Reading from a file descriptor: the end of the input and a failed read are told apart.
+#![tactic(auto)]
+
 ghost use Rattle.std.specs.Prelude.{◌≡◌, length};
 ghost use Rattle.source.specs.Within.{Within};
 

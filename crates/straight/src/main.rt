@@ -1,5 +1,7 @@
 // Reads a program from standard input and writes it without loops and guards to standard output. One byte more than the longest
 // program has is read: so a longer one is refused. A refusal, and a read or write that failed, is a line on standard error.
+#![tactic(auto)]
+
 use comparer::reply::{Reply, Side};
 use model::sizes::{LIST_WORDS, MOST_BYTES};
 use source::Got;

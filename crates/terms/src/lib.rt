@@ -1,4 +1,6 @@
 // The store of terms, in lent memory (docs/LAYOUT.md, "Terms"): each term once, found by a mix of its words.
+#![tactic(auto)]
+
 ghost use Rattle.std.specs.Prelude.{◌≡◌, ◌+◌, ◌*◌, ◌<◌, ◌≤◌, length};
 ghost use Rattle.terms.specs.Mix.{eightfold_of, step_of, bucket_of};
 ghost use Rattle.terms.specs.Store.{node_of, node_at, eq_node, written, linked_in, find_of, says_of, start_says, out, intern_of, kept_of, starts_at};

@@ -1,4 +1,6 @@
 // Fills the store, asks for every term again, asks for one more; with names in a row, then with names that all fall into one bucket.
+#![tactic(auto)]
+
 use libc::STDOUT_FILENO;
 use model::sizes::{MOST_TERMS, TERM_WORDS};
 use terms::{Interned, Node, Start};

@@ -1,4 +1,6 @@
 // Turns a program into its update list in lent memory, and checks a list.
+#![tactic(auto)]
+
 mod entry;
 mod forms;
 mod header;

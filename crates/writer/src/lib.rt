@@ -1,4 +1,6 @@
 // Writes an update list back as a program file.
+#![tactic(auto)]
+
 mod entry;
 mod head;
 mod layout;
