@@ -91,12 +91,13 @@ class Names:
         return {name: new for name, new in turned.items() if name != new}
 
 
-def respelled(text, turned, fields, walk):
-    """Of a proof file of a function what stands behind a dot is a step of its code, and keeps its spelling unless it is a field."""
+def respelled(text, turned, fields, walk, source):
+    """Of a proof file of a function what stands behind a dot is a step of its code, and keeps its spelling unless it is a field. In
+    source a name that is snake case already may be a function's, and stays."""
     def one(m):
         word = m.group(0)
         behind = m.start() > 0 and text[m.start() - 1] == '.' and m.string[m.start() - 2:m.start()] != ' .'
-        if word in turned and not (walk and behind and word not in fields):
+        if word in turned and not (walk and behind and word not in fields) and not (source and re.fullmatch('[a-z0-9_]+', word)):
             return turned[word]
         return word
     return TOKEN.sub(one, text)
@@ -111,7 +112,7 @@ def main():
         return 0
     for path in names.paths:
         text = path.read_text()
-        new = respelled(text, turned, names.fields, path.name == 'Proof.antt')
+        new = respelled(text, turned, names.fields, path.name == 'Proof.antt', path.suffix == '.rt')
         if new != text:
             path.write_text(new)
     print(f'{len(turned)} names')

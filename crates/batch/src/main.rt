@@ -14,7 +14,7 @@ use source::Got;
 const BODY_BYTES: usize = 32768;
 
 // What follows a pair: the next one, the last line, or nothing, since a read or a write failed.
-#[derive(Drop)]
+#[derive(Clone, Copy)]
 enum Next {
     Pair(Totals),
     Last(Totals),

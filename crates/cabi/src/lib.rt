@@ -27,7 +27,7 @@ use writer::{Written, write_file};
 // Kind 0, equal: how many elements were compared (of `unroll` the updates, of `check_list` 0, of `write_file` the bytes). 1, differs: array and cell.
 // 2, refused: side (0 left, 1 right, 2 both, 3 input), question and place. Unused numbers are 0.
 #[repr(C)]
-#[derive(Drop)]
+#[derive(Clone, Copy)]
 pub struct Numbers {
     pub kind: usize,
     pub first: usize,
@@ -208,7 +208,7 @@ pub extern "C" fn tengmua_write_file(list: &[u32], out: &mut [u8]) -> Numbers
 // Kind 0, written: array, cell, the stretch from `from` up to `to`, and the first `count` index values. 1, starting content: array and
 // cell. 2, refused: side (0 left, 1 right, 2 both, 3 input), question and place. Unused numbers are 0.
 #[repr(C)]
-#[derive(Drop)]
+#[derive(Clone, Copy)]
 pub struct ExplanationNumbers {
     pub kind: usize,
     pub side: usize,

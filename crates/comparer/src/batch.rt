@@ -18,7 +18,7 @@ pub const LENGTHS_BYTES: usize = 4;
 const MOST_COUNT: usize = 18446744073709551615;
 
 // No byte is left; side and question's number of the refusal of a pair that is the last; or both lengths.
-#[derive(Drop)]
+#[derive(Clone, Copy)]
 pub enum Lengths {
     Ended,
     Refused(Side, u8),
@@ -26,7 +26,7 @@ pub enum Lengths {
 }
 
 // How many pairs there are, how many are equal, differ and are refused, and the sum of the counts of the equal ones.
-#[derive(Drop)]
+#[derive(Clone, Copy)]
 pub struct Totals {
     pub pairs: usize,
     pub equal: usize,

@@ -128,7 +128,7 @@ fn fits(from: usize, size: usize, room: usize) -> bool
 }
 
 // The first cell of an array at which the sides differ, or its size. The array's cells begin at p on the left and at q on the right.
-fn first_cell_lem(
+fn first_cell(
     left: &[u32],
     right: &[u32],
     terms: &[u32],
@@ -183,7 +183,7 @@ fn first_array(
         if is_compared(list, mask, a) {
             let size = size_of(list, a);
             let role = role_of(list, a);
-            let c = first_cell_lem(left, right, terms, role, lefts[a], rights[a], a, size);
+            let c = first_cell(left, right, terms, role, lefts[a], rights[a], a, size);
             if c < size {
                 return Reply::Differs(a, c);
             }

@@ -10,7 +10,7 @@ use model::sizes::{CELL_WORDS, HEADER_WORDS, MOST_TERMS};
 use terms::Kept;
 
 // The place past a tree, the number of terms, and the id plus 1. A number above 4,096: there is no room.
-#[derive(Drop)]
+#[derive(Clone, Copy)]
 struct Step {
     at: usize,
     count: u32,
@@ -18,7 +18,7 @@ struct Step {
 }
 
 // The same for the arguments of an operator.
-#[derive(Drop)]
+#[derive(Clone, Copy)]
 struct Row {
     at: usize,
     count: u32,
@@ -134,7 +134,7 @@ fn arity(byte: usize) -> usize
 }
 
 // The ids as they are stored where the arguments may swap: the smaller of the two first.
-fn in_order_lem(ids: [u32; 4]) -> [u32; 4]
+fn in_order(ids: [u32; 4]) -> [u32; 4]
     ensures { result ≡ sorted true ids }
 {
     if ids[1] < ids[0] {
@@ -170,7 +170,7 @@ fn operate(terms: &mut [u32], operator: u32, byte: usize, row: Row) -> Step
     }
     let ids = row.ids;
     if swaps(byte) {
-        return put_operator(terms, operator, row.at, row.count, in_order_lem(ids));
+        return put_operator(terms, operator, row.at, row.count, in_order(ids));
     }
     put_operator(terms, operator, row.at, row.count, ids)
 }

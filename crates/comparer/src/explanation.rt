@@ -14,7 +14,7 @@ use model::byte::wide;
 use unroller::{Source, origin_of};
 
 // The side that a caller asks about.
-#[derive(Drop)]
+#[derive(Clone, Copy)]
 pub enum Chosen {
     Left,
     Right,
@@ -22,7 +22,7 @@ pub enum Chosen {
 
 // A statement wrote the element, of which array and cell number are given; that side never wrote it; or side, question's number
 // and place.
-#[derive(Drop)]
+#[derive(Clone, Copy)]
 pub enum Answer {
     Written(usize, usize),
     Starting(usize, usize),
@@ -31,7 +31,7 @@ pub enum Answer {
 
 // The stretch is from `from` up to `to` in the chosen program's bytes, and the first `count` of the index values are the update's,
 // outermost first; all are 0 where no statement wrote the element.
-#[derive(Drop)]
+#[derive(Clone, Copy)]
 pub struct Explanation {
     pub answer: Answer,
     pub from: usize,

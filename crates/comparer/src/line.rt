@@ -16,7 +16,7 @@ use model::numbers::{least, size};
 pub const LINE_BYTES: usize = 160;
 
 // Bytes up to `len`, zeros behind.
-#[derive(Drop)]
+#[derive(Clone, Copy)]
 pub struct Line {
     pub bytes: [u8; LINE_BYTES],
     pub len: usize,

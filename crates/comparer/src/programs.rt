@@ -22,7 +22,7 @@ ghost use Rattle.comparer.specs.BatchSteps.{body_reply};
 ghost use Rattle.comparer.specs.Entry.{enough_lent, entry_reply, programs_by, programs_reply, plain_reply, input_by, input_masked, input_reply};
 
 // The mask of a comparison: as a caller gives it, or the bits of the out arrays.
-#[derive(Drop)]
+#[derive(Clone, Copy)]
 pub(crate) enum Mask {
     Given(u16),
     Outs,
@@ -40,7 +40,7 @@ fn mask_of(mask: Mask, list: &[u32]) -> u16
 }
 
 // A program's list is laid out, or question and place of its refusal.
-#[derive(Drop)]
+#[derive(Clone, Copy)]
 pub(crate) enum Laid {
     Out,
     Not(u8, usize),

@@ -1,7 +1,7 @@
 // The three replies.
 
 // The side that a refusal names.
-#[derive(Drop)]
+#[derive(Clone, Copy)]
 pub enum Side {
     Left,
     Right,
@@ -10,7 +10,7 @@ pub enum Side {
 }
 
 // The number of elements compared; array and cell number; or side, question's number and place.
-#[derive(Drop)]
+#[derive(Clone, Copy)]
 pub enum Reply {
     Equal(usize),
     Differs(usize, usize),

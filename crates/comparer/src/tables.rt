@@ -5,14 +5,14 @@ ghost use Rattle.comparer.specs.Headers.{Counted, bits_from, Leads, FirstApart, 
 use model::numbers::{least, wide};
 
 // The first number at which two tables differ.
-#[derive(Drop)]
+#[derive(Clone, Copy)]
 enum Table {
     Same,
     Differs(usize),
 }
 
 // Which question has a no, with its place.
-#[derive(Drop)]
+#[derive(Clone, Copy)]
 pub(crate) enum Tables {
     Same,
     Arrays(usize),

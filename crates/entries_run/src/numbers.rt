@@ -6,7 +6,7 @@ use model::numbers::size;
 use reader::fields::{Field, Place, Signed};
 
 // The arguments of an entry; one with fewer leaves the last aside.
-#[derive(Drop)]
+#[derive(Clone, Copy)]
 pub(crate) struct Args {
     pub a: usize,
     pub b: usize,
@@ -20,14 +20,14 @@ fn quad(a: u8, b: u8, c: u8, d: u8) -> u32 {
     a as u32 + 256 * (b as u32 + 256 * (c as u32 + 256 * (d as u32)))
 }
 
-fn wide_word_lem(x: u32) -> usize
+fn wide_word(x: u32) -> usize
     ensures { result ≤ 4294967295 }
 {
     x as usize
 }
 
 pub(crate) fn number_of(head: &[u8; 4]) -> usize {
-    wide_word_lem(quad(head[0], head[1], head[2], head[3]))
+    wide_word(quad(head[0], head[1], head[2], head[3]))
 }
 
 // Bytes that are not there count as 0 together.
@@ -48,7 +48,7 @@ pub(crate) fn number_at(s: &[u8], at: usize) -> usize {
     if s.len() - at < 8 {
         return 0;
     }
-    wide_word_lem(word_at(s, at)) + 4294967296 * wide_word_lem(word_at(s, at + 4))
+    wide_word(word_at(s, at)) + 4294967296 * wide_word(word_at(s, at + 4))
 }
 
 // Lower bytes of an argument, for entries that take fewer.
@@ -71,7 +71,7 @@ pub(crate) fn say(n: usize) {
 }
 
 pub(crate) fn say_word(n: u32) {
-    say(wide_word_lem(n));
+    say(wide_word(n));
 }
 
 pub(crate) fn say_bool(b: bool) {

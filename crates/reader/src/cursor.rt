@@ -8,7 +8,7 @@ ghost use Rattle.reader.specs.Places.{bytes_in, standing};
 
 use crate::fields::{Field, Signed, Width, i16_at, left_at, number_at};
 
-#[derive(Drop)]
+#[derive(Clone, Copy)]
 pub struct Reader<'a> {
     src: &'a [u8],
     at: usize,

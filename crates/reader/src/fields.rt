@@ -10,21 +10,21 @@ ghost use Rattle.reader.specs.Places.{bytes_in};
 use model::byte::wide;
 
 // A number and the place past it, or a question's number and place.
-#[derive(Drop)]
+#[derive(Clone, Copy)]
 pub enum Field {
     Is(usize, usize),
     Not(u8, usize),
 }
 
 // A signed number and the place past it, or a refusal.
-#[derive(Drop)]
+#[derive(Clone, Copy)]
 pub enum Signed {
     Is(i16, usize),
     Not(u8, usize),
 }
 
 // How many bytes an unsigned field has.
-#[derive(Drop)]
+#[derive(Clone, Copy)]
 pub enum Width {
     One,
     Two,
@@ -33,7 +33,7 @@ pub enum Width {
 }
 
 // The place past what was read, or a refusal.
-#[derive(Drop)]
+#[derive(Clone, Copy)]
 pub enum Place {
     Next(usize),
     Not(u8, usize),

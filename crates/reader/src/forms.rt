@@ -10,7 +10,7 @@ ghost use Rattle.reader.specs.declared.fields.Place.TheVariants as place;
 use crate::fields::{Place, has, i8_of, i16_of, left_at, pair, quad};
 
 // A form beside the place past it. Coefficients beyond the loops are 0; on a refusal all is 0.
-#[derive(Drop)]
+#[derive(Clone, Copy)]
 pub struct FormRead {
     pub answer: Place,
     pub constant: i16,

@@ -58,7 +58,7 @@ fn operator_byte_at(s: &[u8], at: usize, version: usize) -> Field
 }
 
 // The operators' bytes beside the place past them.
-#[derive(Drop)]
+#[derive(Clone, Copy)]
 struct OperatorsRead {
     answer: Place,
     bytes: [u8; 16],
@@ -146,7 +146,7 @@ fn extent_at(s: &[u8], at: usize) -> Field
 }
 
 // Extents beside their product and the place past them.
-#[derive(Drop)]
+#[derive(Clone, Copy)]
 struct ExtentsRead {
     answer: Place,
     extents: [u16; 3],
@@ -186,7 +186,7 @@ fn extents_at(s: &[u8], at: usize, n: usize) -> ExtentsRead
 }
 
 // An array beside the number of its cells and the place past it.
-#[derive(Drop)]
+#[derive(Clone, Copy)]
 struct ArrayRead {
     answer: Place,
     role: usize,

@@ -20,7 +20,7 @@ pub mod items;
 pub mod tables;
 
 // Whether a file is a program: accepted, or a question's number and place. A program alone is the left one (`verdictSays`).
-#[derive(Drop)]
+#[derive(Clone, Copy)]
 pub enum Verdict {
     Accepted,
     Refused(u8, usize),

@@ -19,7 +19,7 @@ pub type FlatTables = [usize; FLAT];
 
 // Entries beyond the counts are 0. bytes[o] is the byte of operator o; the extents of array a stand at 3a; bases[a] is the number
 // of cells before array a, bases[arrays] that of all.
-#[derive(Drop)]
+#[derive(Clone, Copy)]
 pub struct Tables {
     pub operators: usize,
     pub bytes: [u8; 16],
@@ -31,13 +31,13 @@ pub struct Tables {
 }
 
 // Tables beside the place of the first item; all zeros on a refusal.
-#[derive(Drop)]
+#[derive(Clone, Copy)]
 pub struct TablesRead {
     pub answer: Place,
     pub tables: Tables,
 }
 
-fn wide_word_lem(x: u16) -> usize
+fn wide_word(x: u16) -> usize
     ensures { (result ≡ x) × (result < 65536) }
 {
     x as usize
@@ -60,7 +60,7 @@ fn put_extents(r: &mut FlatTables, from: [u16; 48])
 {
     let mut k: usize = 0;
     while k < 48 {
-        r[50 + k] = wide_word_lem(from[k]);
+        r[50 + k] = wide_word(from[k]);
         k += 1;
     }
 }

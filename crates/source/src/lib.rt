@@ -5,7 +5,7 @@ ghost use Rattle.std.specs.Prelude.{◌≡◌, length};
 ghost use Rattle.source.specs.Within.{Within};
 
 // So many bytes stand at the start of the slice, fewer than it holds only where the input ended; or a read failed behind so many.
-#[derive(Drop)]
+#[derive(Clone, Copy)]
 pub enum Got {
     Bytes(usize),
     Failed(usize),

@@ -10,7 +10,7 @@ use model::numbers::wide;
 use model::sizes::{MOST_TERMS, TERM_WORDS};
 
 // The words of a term: kind, payload and four arguments, each an id plus 1, or 0 where there is none.
-#[derive(Drop)]
+#[derive(Clone, Copy)]
 pub struct Node {
     pub kind: u32,
     pub payload: u32,
@@ -22,13 +22,13 @@ pub struct Node {
 
 // The number of terms after a call, and the id plus 1. As `put` answers it, a number above 4,096 is a refusal, and the id is then
 // the number of the question.
-#[derive(Drop)]
+#[derive(Clone, Copy)]
 pub struct Kept {
     pub count: u32,
     pub id: u32,
 }
 
-#[derive(Drop)]
+#[derive(Clone, Copy)]
 pub enum Interned {
     At(Kept),
     // No room for one more: question 24.
@@ -37,7 +37,7 @@ pub enum Interned {
     Short,
 }
 
-#[derive(Drop)]
+#[derive(Clone, Copy)]
 pub enum Start {
     Yes,
     No,
@@ -46,7 +46,7 @@ pub enum Start {
 }
 
 // What a walk of a chain finds: the id plus 1.
-#[derive(Drop)]
+#[derive(Clone, Copy)]
 enum Found {
     Here(u32),
     Missing,

@@ -15,7 +15,7 @@ use reader::tables::flat;
 use reader::{Verdict, read_program};
 
 // The number of updates in the list; or a question's number and place; or the list is too short, 25.
-#[derive(Drop)]
+#[derive(Clone, Copy)]
 pub enum Unrolled {
     Updates(usize),
     Refused(u8, usize),

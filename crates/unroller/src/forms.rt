@@ -69,7 +69,7 @@ pub(crate) fn form_value(constant: i16, coefficients: [i8; 8], indices: [i16; 8]
 }
 
 // The value of a form and the place past it, or the number of a question.
-#[derive(Drop)]
+#[derive(Clone, Copy)]
 pub(crate) enum Valued {
     Is(i32, usize),
     No(u8),

@@ -14,7 +14,7 @@ use reader::items::items_end;
 use reader::tables::FlatTables;
 
 // A loop's start, end and step, and the place of its body; or a question's number.
-#[derive(Drop)]
+#[derive(Clone, Copy)]
 pub(crate) enum Range {
     Over(i16, i16, i16, usize),
     No(u8),

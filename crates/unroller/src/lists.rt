@@ -14,7 +14,7 @@ use model::operator::{arity, is_operator};
 use model::sizes::{HEADER_WORDS, LIST_WORDS, MOST_CELLS, MOST_NODES, MOST_UPDATES};
 
 // Refused: 26. Short: 25.
-#[derive(Drop)]
+#[derive(Clone, Copy)]
 pub enum Checked {
     Accepted,
     Refused,
@@ -22,14 +22,14 @@ pub enum Checked {
 }
 
 // What reading an update finds: the place past it, and the nodes with its own; or nothing.
-#[derive(Drop)]
+#[derive(Clone, Copy)]
 enum Moved {
     To(usize, usize),
     Stop,
 }
 
 // What reading an array's record finds: its role and size, or nothing.
-#[derive(Drop)]
+#[derive(Clone, Copy)]
 enum Declared {
     Is(u32, usize),
     Not,
@@ -187,7 +187,7 @@ fn first_state(role: u32) -> u8
 }
 
 // Locals come last.
-fn in_order_lem(local: bool, role: u32) -> bool
+fn in_order(local: bool, role: u32) -> bool
     ensures { result ≡ (not local || eqb role 3) }
 {
     if local {

@@ -23,7 +23,7 @@ use reader::tables::{FlatTables, array_count, flat};
 type Last = [usize; 3];
 
 // What is known of an element: a statement wrote it last; none did; a question's number and place; or the list is too short, 25.
-#[derive(Drop)]
+#[derive(Clone, Copy)]
 pub enum Source {
     Written,
     Starting,
@@ -33,7 +33,7 @@ pub enum Source {
 
 // The stretch from a statement's code byte up to the end of its expression, and the index values of its loops, outermost first,
 // `count` of the eight; all 0 where no statement wrote the element.
-#[derive(Drop)]
+#[derive(Clone, Copy)]
 pub struct Origin {
     pub source: Source,
     pub from: usize,

@@ -19,28 +19,28 @@ use reader::tables::{
 };
 
 // A cell number, or one made of some subscripts, and the place past them; or a question's number.
-#[derive(Drop)]
+#[derive(Clone, Copy)]
 pub(crate) enum Cell {
     Is(usize, usize),
     No(u8),
 }
 
 // The place past an expression, and the word past its records; or a question's number.
-#[derive(Drop)]
+#[derive(Clone, Copy)]
 enum Wrote {
     To(usize, usize),
     No(u8),
 }
 
 // The place past a record's bytes, and how many records of arguments follow it; or a question's number.
-#[derive(Drop)]
+#[derive(Clone, Copy)]
 enum Record {
     Of(usize, usize),
     No(u8),
 }
 
 // The cell of an update's target, the place past its expression, and the word past its records; or a question's number.
-#[derive(Drop)]
+#[derive(Clone, Copy)]
 enum Target {
     Is(usize, usize, usize),
     No(u8),

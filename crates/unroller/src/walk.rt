@@ -8,7 +8,7 @@ pub(crate) type Flags = [u8; MOST_CELLS];
 
 // The answer: the place past what was run, with the rounds, nodes and updates there are then; or a question's number and place. The
 // counts go as plain numbers: a struct of them, passed on from call to call, is copied each time.
-#[derive(Drop)]
+#[derive(Clone, Copy)]
 pub(crate) enum Walk {
     On(usize, usize, usize, usize),
     No(u8, usize),

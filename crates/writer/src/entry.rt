@@ -13,7 +13,7 @@ use model::sizes::MOST_BYTES;
 use unroller::{Checked, check_list};
 
 // The file's length. Short: 25. Refused: 26. Wide: 28, with the first update that has such a literal. Long: 29.
-#[derive(Drop)]
+#[derive(Clone, Copy)]
 pub enum Written {
     File(usize),
     Short,

@@ -121,7 +121,7 @@ fn write_record(list: &[u32], at: usize, out: &mut [u8]) -> usize
 }
 
 // How many records were written, and how many bytes they take.
-#[derive(Drop)]
+#[derive(Clone, Copy)]
 struct Wrote {
     records: usize,
     bytes: usize,
@@ -185,7 +185,7 @@ pub(crate) fn write_statements(list: &[u32], n: usize, out: &mut [u8]) -> usize
 
 // What measuring the records gives: how many there are, and how many bytes they take; or how many updates had begun where a literal does
 // not fit in 16 bits.
-#[derive(Drop)]
+#[derive(Clone, Copy)]
 pub(crate) enum Measured {
     Sized(usize, usize),
     Wide(usize),
