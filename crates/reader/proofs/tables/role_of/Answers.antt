@@ -1,0 +1,20 @@
+use Prim.Native.Nat.{◌+◌}
+use native.Mathlib.Omega.{arith}
+use Rattle.reader.proofs.Computed.{at_place}
+use Rattle.reader.proofs.Flattened.{arrays_in, role_at_lem, role_none}
+use Rattle.reader.proofs.tables.role_of.Goals as goal
+
+pub overflow_add-result : goal.overflow_add-result
+overflow_add-result c = let m = arrays_in c.args.tables.now in omega arith
+
+pub offset_bounds-tables-array : goal.offset_bounds-tables-array
+offset_bounds-tables-array c = let m = arrays_in c.args.tables.now in omega arith
+
+pub bounds-tables-array : goal.bounds-tables-array
+bounds-tables-array c = let m = arrays_in c.args.tables.now in omega arith
+
+pub returns-then-array-array_count : goal.returns-then-array-array_count
+returns-then-array-array_count c = at_place c.args.tables.now _ (18 + c.args.array) (role_at_lem c.args.tables.now c.args.array (omega arith)) (omega arith)
+
+pub returns-else-array-array_count : goal.returns-else-array-array_count
+returns-else-array-array_count c = role_none c.args.tables.now c.args.array (omega arith)

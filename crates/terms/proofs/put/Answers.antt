@@ -1,0 +1,11 @@
+use Rattle.terms.proofs.Cases.{put_by}
+use Rattle.terms.proofs.put.Goals as goal
+
+pub returns-in-At : goal.returns-in-At
+returns-in-At c = put_by _ _ _ _ _ _ c.intern-interned.ensures c.in-At.is
+
+pub returns-in-Full : goal.returns-in-Full
+returns-in-Full c = put_by _ _ _ _ _ _ c.intern-interned.ensures c.in-Full.is
+
+pub returns-in-Short : goal.returns-in-Short
+returns-in-Short c = put_by _ _ _ _ _ _ c.intern-interned.ensures c.in-Short.is
