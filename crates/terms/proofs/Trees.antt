@@ -1,5 +1,5 @@
 -- Nodes and trees: a node over stored trees is one tree up to swaps, and trees that are alike are one node.
-use Rattle.std.proofs.Common.{◌≡◌, ℕ, zero, suc, ◌-◌, ◌<◌, ◌≤◌, Bool, true, eqb, ◌⊎◌, List, [], ◌∷◌, ◌++◌, length, get_or, take, drop, ℤ, sym, refl, ap, ◌∙◌, subst, inl, ⊎_elim, eq-or-lt_of_le, arith, length-append, take-append-drop, to_z-of_z, w32, to_z, of_z, eqb-true}
+use Rattle.std.proofs.Common.{◌≡◌, ℕ, zero, suc, ◌-◌, ◌<◌, ◌≤◌, Bool, true, eqb, List, [], ◌∷◌, ◌++◌, length, get_or, take, drop, ℤ, sym, refl, ap, ◌∙◌, subst, inl, ⊎_elim, eq-or-lt_of_le, arith, length-append, take-append-drop, to_z-of_z, w32, to_z, of_z, eqb-true}
 use mathlib.Core.Bool.{false≢true, and-eq-true_iff}
 use lib.ListN.{get_or-append}
 use Rattle.model.specs.Update.{Tree, Trees}

@@ -29,5 +29,5 @@ pub returns-else-count-ge-MOST_TERMS : goal.returns-else-count-ge-MOST_TERMS
 returns-else-count-ge-MOST_TERMS c =
     let s = c.args in
     let b = c.bucket-b in
-    sym (is_stored s.memory.now s.count s.node b.result c.append.new.0 (omega arith) b.ensures.0 c.append.ensures)
+    sym (is_stored s.memory.now s.count s.node b.result c.append.new.memory (omega arith) b.ensures.0 c.append.ensures)
     ∙ by_found_lem s.memory.now s.count s.node (omega arith) (omega arith) b.result _ _ b.ensures.0 c.find-found.ensures c.in-Missing.is
