@@ -1,14 +1,14 @@
 -- Forms: where all bytes are there, and where the first is missing.
 use mathlib.Core.Path.{◌≡◌, refl, sym, ap}
-use Prim.Native.Nat.{ℕ, zero, suc, ◌+◌, ◌-◌, ◌*◌, ◌≤◌, ◌<◌}
+use Prim.Native.Nat.{ℕ, zero, suc, ◌+◌, ◌*◌, ◌≤◌, ◌<◌}
 use mathlib.Core.List.{List, [], ◌∷◌}
 use native.Mathlib.Omega.{arith}
-use lib.ListN.{length, get_or, take, replicate}
+use lib.ListN.{length, get_or, replicate}
 use lib.IntN.{ℤ, pos}
 use mir.Syntax.{w8, w16}
 use mir.Val.{to_z}
 use borrow.Author.Tests.{le-leb, lt-leb}
-use Rattle.reader.specs.Field.{Outcome, got, no, and_then, byte, i8, i16, times}
+use Rattle.reader.specs.Field.{Outcome, got, no, i8, times}
 use Rattle.reader.specs.Syntax.{Form}
 use Rattle.reader.specs.Grammar.{form}
 use Rattle.reader.specs.Entries.{padded, signeds, form_step, FormIs}

@@ -2,7 +2,7 @@
 use mathlib.Core.Path.{◌≡◌, refl, sym, ap, ◌∙◌}
 use Prim.Native.Nat.{ℕ, zero, suc, ◌+◌, ◌*◌, ◌≤◌, ◌<◌}
 use mathlib.Core.List.{List}
-use mathlib.Core.Bool.{Bool, true, false}
+use mathlib.Core.Bool.{true, false}
 use native.Mathlib.Omega.{arith}
 use lib.ListN.{length, get_or}
 use lib.Dec.{leb}
@@ -12,7 +12,7 @@ use mir.Val.{to_z}
 use Rattle.reader.specs.Answers.{through}
 use Rattle.reader.specs.Grammar.{step}
 use borrow.Author.Tests.{le-leb, lt-leb}
-use Rattle.reader.specs.Field.{Outcome, got, no, little_endian, field, byte, u16, u32, i16}
+use Rattle.reader.specs.Field.{got, no, little_endian, field, byte, u16, u32, i16}
 
 pub field_is : (n : ℕ) (s : List ℕ) (at : ℕ) → leb (at + n) (length s) ≡ true → got (little_endian n s at) (at + n) ≡ field n s at
 unfolding field

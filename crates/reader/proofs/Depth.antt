@@ -1,12 +1,11 @@
 -- The steps that any caller may make: at most 8 deep, or over at most 16,384 bytes, they are the grammar's; else 12 or 2.
-use mathlib.Core.Path.{◌≡◌, refl, sym, ◌∙◌}
+use mathlib.Core.Path.{◌≡◌, sym, ◌∙◌}
 use Prim.Native.Nat.{ℕ, ◌+◌, ◌≤◌, ◌<◌}
 use mathlib.Core.List.{List, [], ◌∷◌}
-use native.Mathlib.Omega.{arith}
 use lib.ListN.{length}
 use borrow.Author.Tests.{le-leb, lt-leb}
 use Rattle.model.specs.Tables.{Tables}
-use Rattle.reader.specs.Field.{Outcome, got, no, times}
+use Rattle.reader.specs.Field.{got, no, times}
 use Rattle.reader.specs.Grammar.{tables, form, expression, body}
 use Rattle.reader.specs.Entries.{forms_step, expression_step, items_step, tables_step}
 use Rattle.reader.proofs.Binds.{not-got}

@@ -6,7 +6,7 @@ use native.Mathlib.Omega.{arith}
 use mathlib.Core.List.{List, [], ◌∷◌, ◌++◌, append-nil, append_assoc}
 use lib.ListN.{length, get_or, set, drop, length-append, get_or-map, get_or-eq_default}
 use lib.Seq.{sets, sets-eq, get_or_at, drop-length}
-use Rattle.model.specs.Tables.{Tables, array_at, swaps, arity_of, arity_at}
+use Rattle.model.specs.Tables.{array_at, swaps, arity_of, arity_at}
 use Rattle.reader.specs.Entries.{cut, array_of, arrays_of, unpacked, capped, viewed, tables_in, flattened}
 use Rattle.reader.specs.declared.tables.Tables.{Tables as Packed}
 use Rattle.reader.proofs.Numbers.{by_order}

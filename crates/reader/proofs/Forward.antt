@@ -1,19 +1,19 @@
 -- Readers move forward, and not past the end: what holds of a value that was got and of the place past it.
-use mathlib.Core.Path.{◌≡◌, refl, sym, ap, subst, ◌∙◌}
-use Prim.Native.Nat.{ℕ, zero, suc, ◌+◌, ◌*◌, ◌≤◌, ◌<◌}
+use mathlib.Core.Path.{◌≡◌, refl, sym, ap, subst}
+use Prim.Native.Nat.{ℕ, zero, suc, ◌+◌, ◌≤◌, ◌<◌}
 use mathlib.Core.List.{List, [], ◌∷◌}
 use mathlib.Core.Bool.{Bool, true, false, not, ◌||◌}
 use native.Mathlib.Omega.{arith}
 use lib.ListN.{length}
 use lib.IntN.{ℤ, pos, negsuc}
 use lib.Dec.{leb, ltb, eqb}
-use borrow.Author.Tests.{leb-true, ltb-true, lt-leb, le-leb}
-use Rattle.model.specs.Test.{if◌then◌else◌, within}
+use borrow.Author.Tests.{leb-true, ltb-true}
+use Rattle.model.specs.Test.{if◌then◌else◌}
 use Rattle.model.specs.Tables.{Tables, array_at, arity_at}
 use Rattle.reader.specs.Field.{Outcome, got, no, Reader, and_then, ask, field, byte, u16, u32, i8, i16, little_endian, times, give, refuse}
-use Rattle.reader.specs.Syntax.{Form, Expr, Exprs, Item, Items, count, counts}
+use Rattle.reader.specs.Syntax.{Expr, Exprs, Item, count, counts}
 use Rattle.reader.specs.Syntax.Exprs.{none, more}
-use Rattle.reader.specs.Syntax.Items.{end, item}
+use Rattle.reader.specs.Syntax.Items.{end}
 use Rattle.reader.proofs.Bytes.{step-zero, step_is, step_no}
 use Rattle.reader.specs.Grammar.{form, subscripts, index, step, read_of, literal_of, constant_of, apply_of, node, applied, expression, statement_of, loop_of, guard_of, items, item_of, nested}
 

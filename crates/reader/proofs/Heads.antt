@@ -1,13 +1,12 @@
 -- Steps of the proofs about the head of a file: checked bytes, lists that a loop stores, arrays.
 use mathlib.Core.Path.{◌≡◌, refl, sym, ap, subst, ◌∙◌}
-use Prim.Native.Nat.{ℕ, zero, suc, ◌+◌, ◌-◌, ◌*◌, ◌^◌, ◌≤◌, ◌<◌}
+use Prim.Native.Nat.{ℕ, zero, suc, ◌+◌, ◌*◌, ◌^◌, ◌≤◌, ◌<◌}
 use mathlib.Core.List.{List, [], ◌∷◌, ◌++◌, append-nil, append_assoc}
-use mathlib.Core.Bool.{Bool, true, false, not, ◌&&◌, ◌||◌}
+use mathlib.Core.Bool.{Bool, true, false, ◌&&◌}
 use native.Mathlib.Omega.{arith}
-use native.Mathlib.Nat.{sub-zero, mul_assoc, mul-le-mul}
-use native.Mathlib.Numerals.{sub-one, add-one}
+use native.Mathlib.Nat.{mul_assoc, mul-le-mul}
 use lib.ListN.{length}
-use lib.Dec.{leb, eqb}
+use lib.Dec.{leb}
 use borrow.Author.Tests.{le-leb, lt-leb, leb-true, eq-eqb, ne_eqb}
 use Rattle.model.specs.Test.{within}
 use Rattle.model.specs.Tables.{Array, Tables, cells, local, operator_in}
@@ -21,7 +20,7 @@ use Rattle.reader.specs.declared.header.ExtentsRead.{ExtentsRead}
 use Rattle.reader.specs.declared.header.ArrayRead.{ArrayRead}
 use Rattle.reader.specs.declared.tables.TablesRead.{TablesRead}
 use Rattle.reader.proofs.Steps.{step, stop, asked, denied, whole}
-use Rattle.reader.proofs.Forward.{Held, held_then, held-ask, held-got}
+use Rattle.reader.proofs.Forward.{Held, held_then, held-ask}
 
 -- a field with a question of its own
 module _ (n at : ℕ) (test : ℕ → Bool) (s : List ℕ) {m : Outcome ℕ} where

@@ -9,7 +9,7 @@ use borrow.Author.Tests.{eq-eqb, ne_eqb}
 use Rattle.model.specs.Tables.{Tables, array_at, arity_at}
 use Rattle.reader.specs.Field.{Outcome, got, no, Reader, and_then, byte, times}
 use Rattle.reader.specs.Syntax.{Expr, Exprs, count, counts}
-use Rattle.reader.specs.Syntax.Expr.{read, apply}
+use Rattle.reader.specs.Syntax.Expr.{read}
 use Rattle.reader.specs.Syntax.Exprs.{none, more}
 use Rattle.reader.specs.Grammar.{form, subscripts, index, read_of, apply_of, node, applied}
 use Rattle.reader.specs.Answers.{through, ended, field_says, place_says}

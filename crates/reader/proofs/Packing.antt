@@ -1,13 +1,13 @@
 -- Tables by value: what the code's `Tables` say of an operator or an array.
 use mathlib.Core.Path.{◌≡◌, refl, sym, ap, ◌∙◌}
-use Prim.Native.Nat.{ℕ, zero, suc, ◌+◌, ◌-◌, ◌*◌, ◌≤◌, ◌<◌, min}
-use mathlib.Core.List.{List, [], ◌∷◌, ◌++◌}
+use Prim.Native.Nat.{ℕ, zero, suc, ◌+◌, ◌*◌, ◌≤◌, ◌<◌, min}
+use mathlib.Core.List.{List, [], ◌∷◌}
 use native.Mathlib.Omega.{arith}
 use mathlib.Core.Bool.{Bool, true, false}
 use lib.ListN.{length, get_or, get_or-eq_default}
 use lib.Dec.{ltb}
 use borrow.Author.Tests.{ltb-true, ltb-false}
-use Rattle.model.specs.Tables.{Array, Tables, array_at}
+use Rattle.model.specs.Tables.{Array, array_at}
 use Rattle.reader.specs.Entries.{cut, array_of, arrays_of, unpacked}
 use Rattle.reader.specs.declared.tables.Tables.{Tables as Packed}
 

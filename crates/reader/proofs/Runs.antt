@@ -2,19 +2,18 @@
 use mathlib.Core.Path.{◌≡◌, refl, sym, ap, ◌∙◌}
 use Prim.Native.Nat.{ℕ, zero, suc, ◌+◌, ◌-◌, ◌≤◌, ◌<◌}
 use mathlib.Core.List.{List, [], ◌∷◌}
-use mathlib.Core.Bool.{Bool, true, false, not, ◌||◌}
+use mathlib.Core.Bool.{true, not, ◌||◌}
 use native.Mathlib.Omega.{arith}
 use native.Mathlib.Numerals.{sub-one, add-one}
 use lib.ListN.{length, get_or}
 use lib.Dec.{eqb}
 use borrow.Author.Tests.{ne_eqb, eq-eqb}
 use Rattle.model.specs.Tables.{Tables, array_at}
-use Rattle.reader.specs.Field.{Outcome, got, no, Reader, and_then, byte, times}
-use Rattle.reader.specs.Syntax.{Expr, Item, Items, Form, count}
+use Rattle.reader.specs.Field.{Outcome, got, no, Reader, byte, times}
+use Rattle.reader.specs.Syntax.{Item, Items, count}
 use Rattle.reader.specs.Grammar.{form, subscripts, index, expression, statement_of, loop_of, guard_of, items, item_of, nested, body}
-use Rattle.reader.specs.Answers.{through, ended, field_says, place_says}
+use Rattle.reader.specs.Answers.{through, ended, place_says}
 use Rattle.reader.specs.Entries.{continued}
-use Rattle.reader.specs.declared.fields.Field.{Field}
 use Rattle.reader.specs.declared.fields.Place.{Place}
 use Rattle.reader.specs.declared.fields.Place.TheVariants as place
 use Rattle.reader.proofs.Bytes.{byte_is, byte-not}

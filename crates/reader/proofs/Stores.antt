@@ -3,10 +3,9 @@ use mathlib.Core.Path.{◌≡◌, refl, sym, ap, subst, ◌∙◌}
 use Prim.Native.Nat.{ℕ, zero, suc, ◌+◌, ◌-◌, ◌*◌, ◌≤◌, ◌<◌, min}
 use mathlib.Core.List.{List, [], ◌∷◌, ◌++◌, map, append-nil, append_assoc}
 use native.Mathlib.Omega.{arith}
-use native.Mathlib.Numerals.{add-one}
-use lib.ListN.{length, get_or, set, replicate, length-append, length-replicate, length-map}
+use lib.ListN.{length, get_or, set, replicate, length-append, length-map}
 use lib.Seq.{get_or_at}
-use Rattle.model.specs.Tables.{Array, Tables, cells}
+use Rattle.model.specs.Tables.{Array, cells}
 use Rattle.reader.specs.Entries.{padded, cut, array_of, arrays_of, unpacked, threes, bases, packed}
 use Rattle.reader.specs.Parts.{Small, sizes, with_array}
 use Rattle.reader.specs.declared.tables.Tables.{Tables as Packed}

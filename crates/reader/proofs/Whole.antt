@@ -1,23 +1,22 @@
 -- A whole file: its tables, its items, its end.
-use mathlib.Core.Path.{◌≡◌, refl, sym, ap, ◌∙◌}
+use mathlib.Core.Path.{◌≡◌, sym, ap, ◌∙◌}
 use Prim.Native.Nat.{ℕ, ◌≤◌, ◌<◌}
 use mathlib.Core.List.{List}
 use lib.ListN.{length}
-use lib.Dec.{eqb}
 use borrow.Author.Tests.{le-leb, lt-leb, eq-eqb, ne_eqb}
 use Rattle.model.specs.Tables.{Tables}
 use Rattle.model.specs.Reply.{left}
-use Rattle.reader.specs.Field.{Outcome, got, no, and_then, ask}
+use Rattle.reader.specs.Field.{got, no}
 use Rattle.reader.specs.Grammar.{tables, body, program, read_program}
 use Rattle.reader.specs.Answers.{ended, place_says}
 use Rattle.reader.specs.Entries.{items_step, tables_step}
-use Rattle.reader.specs.Verdicts.{Said, accepted, said}
+use Rattle.reader.specs.Verdicts.{accepted, said}
 use Rattle.reader.specs.Verdicts.Said.{refused as refusal}
 use Rattle.reader.specs.declared.fields.Place.{Place}
 use Rattle.reader.specs.declared.fields.Place.TheVariants as place
 use Rattle.reader.proofs.Numbers.{by_order}
 use Rattle.reader.proofs.Depth.{tables-short, tables-long}
-use Rattle.reader.proofs.Steps.{ended-got, ended_no, step, stop, asked, denied}
+use Rattle.reader.proofs.Steps.{ended-got, ended_no}
 
 module _ (s : List ℕ) where
   file-long : 16384 < length s → refusal left 2 0 ≡ said (read_program s)

@@ -2,8 +2,8 @@
 use Rattle.std.specs.Prelude.{ℕ, zero, suc, ◌+◌, List, [], ◌∷◌, Bool, true, false, ◌&&◌, ◌||◌, not, length, ltb, leb, eqb, ℤ, pos, negsuc}
 use Rattle.model.specs.Test.{if◌then◌else◌, within}
 use Rattle.model.specs.Tables.{Array, Tables, cells, array_at, local, operator_in, arity_at}
-use Rattle.reader.specs.Field.{Outcome, got, no, Reader, and_then, ◌>>=◌, give, refuse, here, ask, little_endian, field, byte, u16, u32, i8, i16, times}
-use Rattle.reader.specs.Syntax.{Form, Expr, Exprs, Item, Items, Program}
+use Rattle.reader.specs.Field.{Outcome, got, no, Reader, ◌>>=◌, give, refuse, here, ask, little_endian, field, byte, u16, u32, i8, i16, times}
+use Rattle.reader.specs.Syntax.{Form, Expr, Item, Items, Program}
 use Rattle.reader.specs.Syntax.Expr.{read, apply, literal, named}
 use Rattle.reader.specs.Syntax.Exprs.{none, more}
 use Rattle.reader.specs.Syntax.Item.{statement, loop, guard}

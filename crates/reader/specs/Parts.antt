@@ -5,7 +5,6 @@ use Rattle.model.specs.Tables.{Array, Tables, cells}
 use Rattle.reader.specs.Field.{Outcome, got, no, Reader, and_then, ◌>>=◌, give, here, ask, byte}
 use Rattle.reader.specs.Grammar.{arrays}
 use Rattle.reader.specs.Entries.{padded, packed}
-use Rattle.reader.specs.declared.fields.Place.{Place}
 use Rattle.reader.specs.declared.fields.Place.TheVariants as place
 use Rattle.reader.specs.declared.tables.Tables.{Tables as Packed}
 use Rattle.reader.specs.declared.tables.TablesRead.{TablesRead}

@@ -18,4 +18,4 @@ returns-in-19 c = rw c.in-19.is c.constant_end.ensures
 
 pub returns-in_default : goal.returns-in_default
 unfolding leaf_of
-returns-in_default c = let r = c.in_default.rest in rw (ne_eqb _ _ r.0.0.1, ne_eqb _ _ r.0.1, ne_eqb _ _ r.1) (refused _ refl)
+returns-in_default c = let r = c.in_default.in_default-own.rest in rw (ne_eqb _ _ r.0.0.1, ne_eqb _ _ r.0.1, ne_eqb _ _ r.1) (refused _ refl)

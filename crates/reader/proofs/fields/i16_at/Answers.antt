@@ -2,7 +2,7 @@ use native.Mathlib.Omega.{arith}
 use mathlib.Core.Path.{sym, ap, ◌∙◌}
 use Rattle.reader.proofs.Bytes.{i16_is, i16-not}
 use Rattle.reader.proofs.Numbers.{room}
-use Prim.Native.Nat.{◌+◌, ◌-◌}
+use Prim.Native.Nat.{◌+◌}
 use Rattle.reader.specs.Field.{got}
 use lib.IntN.{ℤ}
 use mir.Syntax.{w16}
@@ -24,7 +24,7 @@ pub overflow_add-result : goal.overflow_add-result
 overflow_add-result c = omega (arith, room c.args.s.now c.args.at 2 c.has.ensures c.if-has.true)
 
 pub returns-then-has : goal.returns-then-has
-returns-then-has c = ap (λ (z : ℤ). got z (c.args.at + 2)) (to_z-of_z (sfits_of c.i16_of.type_inv) ∙ c.i16_of.ensures ∙ ap (to_z w16) c.pair.ensures) ∙ i16_is _ _ (sym c.has.ensures ∙ c.if-has.true)
+returns-then-has c = ap (λ (z : ℤ). got z (c.args.at + 2)) (to_z-of_z {w = w16} (sfits_of c.i16_of.type_inv) ∙ c.i16_of.ensures ∙ ap (to_z w16) c.pair.ensures) ∙ i16_is _ _ (sym c.has.ensures ∙ c.if-has.true)
 
 pub returns-else-has : goal.returns-else-has
 returns-else-has c = i16-not _ _ (sym c.has.ensures ∙ c.if-has.false)

@@ -2,7 +2,7 @@ use native.Mathlib.Omega.{arith}
 use mathlib.Core.Path.{◌≡◌, sym, ap, ◌∙◌}
 use Rattle.reader.proofs.Bytes.{i16_is, step-short, step-zero, step_is}
 use Rattle.reader.proofs.Numbers.{room, zero_16}
-use Prim.Native.Nat.{ℕ, ◌+◌, ◌-◌}
+use Prim.Native.Nat.{ℕ, ◌+◌}
 use Rattle.reader.specs.Field.{got}
 use lib.IntN.{ℤ}
 use mir.Syntax.{w16}
@@ -27,7 +27,7 @@ pub returns-then-w-eq0 : goal.returns-then-w-eq0
 returns-then-w-eq0 c = step-zero _ _ (ap (λ (w : ℕ). got (to_z w16 w) (c.args.at + 2)) (let z : 0 ≡ c.pair-w.result = omega (arith, c.if-w-eq0.true) in z ∙ c.pair-w.ensures) ∙ i16_is _ _ (sym c.has.ensures ∙ c.if-has.true))
 
 pub returns-else-w-eq0 : goal.returns-else-w-eq0
-returns-else-w-eq0 c = let e = to_z-of_z (sfits_of c.i16_of.type_inv) ∙ c.i16_of.ensures in
+returns-else-w-eq0 c = let e = to_z-of_z {w = w16} (sfits_of c.i16_of.type_inv) ∙ c.i16_of.ensures in
     step_is _ _ _ (ap (λ (z : ℤ). got z (c.args.at + 2)) (e ∙ ap (to_z w16) c.pair-w.ensures) ∙ i16_is _ _ (sym c.has.ensures ∙ c.if-has.true))
     (λ z. let w = zero_16 _ (record { fits = c.pair-w.type_inv }) (sym e ∙ z) in let l = c.if-w-eq0.false in absurd (omega arith))
 

@@ -16,4 +16,4 @@ pub returns : goal.returns
 returns c =
     let a = c.args in
     let h : a.at + 2 + a.loops ≤ length a.s.now = omega (arith, c.left_at.ensures, c.if-left_at-loops.false) in
-    form-given _ _ (step-few _ _ _ (omega (arith, c.if-loops-gt8.false)) (form_all _ _ _ h)) (length-signeds a.loops a.s.now (a.at + 2)) refl (to_z-of_z (sfits_of c.i16_of.type_inv) ∙ c.i16_of.ensures ∙ ap (to_z w16) c.pair.ensures) c.coefficients_of.ensures
+    form-given _ _ (step-few _ _ _ (omega (arith, c.if-loops-gt8.false)) (form_all _ _ _ h)) (length-signeds a.loops a.s.now (a.at + 2)) refl (to_z-of_z {w = w16} (sfits_of c.i16_of.type_inv) ∙ c.i16_of.ensures ∙ ap (to_z w16) c.pair.ensures) c.coefficients_of.ensures

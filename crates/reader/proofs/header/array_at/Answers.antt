@@ -1,7 +1,6 @@
 use native.Mathlib.Omega.{arith}
 use mathlib.Core.Path.{◌≡◌, refl, sym}
-use Prim.Native.Nat.{◌-◌}
-use mathlib.Core.Bool.{true, false}
+use mathlib.Core.Bool.{true}
 use Rattle.model.specs.Test.{within}
 use Rattle.reader.proofs.Forward.{held-got}
 use Rattle.reader.proofs.Steps.{field-got, field_no}

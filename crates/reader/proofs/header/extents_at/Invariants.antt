@@ -11,7 +11,7 @@ use Rattle.reader.specs.Grammar.{extent}
 use Rattle.reader.proofs.header.extents_at.Given as goal
 
 abbrev pub invariant-loop-k : goal.invariant-loop-k
-invariant-loop-k l = (l : List ℕ) × (l.k ≤ l.n) × (l.n ≤ 3) × (length l ≡ l.k) × (l.extents ≡ padded 3 0 l) × Behind (times [] ◌∷◌ extent l.n l.s l.at) l (times [] ◌∷◌ extent (l.n - l.k) l.s l.place) × (l.size ≡ cells l) × (l.size ≤ 1024 ^ l.k)
+invariant-loop-k loop = (l : List ℕ) × (loop.k ≤ loop.n) × (loop.n ≤ 3) × (length l ≡ loop.k) × (loop.extents ≡ padded 3 0 l) × Behind (times [] ◌∷◌ extent loop.n loop.s loop.at) l (times [] ◌∷◌ extent (loop.n - loop.k) loop.s loop.place) × (loop.size ≡ cells l) × (loop.size ≤ 1024 ^ loop.k)
 
 abbrev pub decreases-loop-k : goal.decreases-loop-k
 decreases-loop-k l = l.n - l.k

@@ -2,7 +2,6 @@ use native.Mathlib.Omega.{arith}
 use Rattle.reader.proofs.Steps.{field-got, field_no}
 use Rattle.reader.proofs.Heads.{check_no, check_is, check_not, role-local, role_first, role_late, role_large}
 use Rattle.reader.specs.Parts.{checked, role_test}
-use borrow.Author.Tests.{not-true, not-false}
 use Rattle.reader.specs.Field.{byte}
 use Prim.Native.Nat.{ℕ, ◌<◌, ◌≤◌}
 use mathlib.Core.Path.{◌≡◌}
@@ -17,7 +16,7 @@ returns-then-x-eq3 c = check_is 7 c.args.at (role_test c.args.after) c.args.s.no
 
 pub returns-then-not-after : goal.returns-then-not-after
 unfolding checked byte
-returns-then-not-after c = check_is 7 c.args.at (role_test c.args.after) c.args.s.now (field-got c.field_at.ensures c.in-Is.is) (role_first c.in-Is.x c.args.after c.if-x-lt3.true (not-true _ c.if-not-after.true))
+returns-then-not-after c = check_is 7 c.args.at (role_test c.args.after) c.args.s.now (field-got c.field_at.ensures c.in-Is.is) (role_first c.in-Is.x c.args.after c.if-x-lt3.true (c.if-not-after.true))
 
 pub returns-in-Not : goal.returns-in-Not
 unfolding checked byte
@@ -25,7 +24,7 @@ returns-in-Not c = check_no 7 c.args.at (role_test c.args.after) c.args.s.now (f
 
 pub returns-else-not-after : goal.returns-else-not-after
 unfolding checked byte
-returns-else-not-after c = check_not 7 c.args.at (role_test c.args.after) c.args.s.now (field-got c.field_at.ensures c.in-Is.is) (role_late c.in-Is.x c.args.after c.if-x-eq3.false (not-false _ c.if-not-after.false))
+returns-else-not-after c = check_not 7 c.args.at (role_test c.args.after) c.args.s.now (field-got c.field_at.ensures c.in-Is.is) (role_late c.in-Is.x c.args.after c.if-x-eq3.false (c.if-not-after.false))
 
 pub returns-else-x-lt3 : goal.returns-else-x-lt3
 unfolding checked byte
