@@ -1,6 +1,4 @@
-// The bytes of a program and a place in them, kept together. The borrow checker covers no function over such a struct: each is
-// proved by a walk, so each is thin, takes it apart and leaves work to a plain function of `fields`. Who calls `field_at`, whose
-// parameters are plain, needs no walk.
+// The bytes of a program and a place in them, kept together. Each function is thin, and leaves work to a plain function of `fields`.
 ghost use Rattle.std.specs.Prelude.{◌≡◌, ◌-◌, length};
 ghost use Rattle.reader.specs.Field.{field, i16};
 ghost use Rattle.reader.specs.Answers.{field_says, signed_says};

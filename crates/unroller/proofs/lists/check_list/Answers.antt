@@ -1,0 +1,16 @@
+use native.Mathlib.Omega.{arith}
+use Prim.Native.Nat.{◌-◌}
+use Rattle.unroller.proofs.CheckWhole.{short, accepted, refused, zero-array}
+use Rattle.unroller.proofs.lists.check_list.Goals as goal
+
+pub returns-then-list-lt-LIST_WORDS : goal.returns-then-list-lt-LIST_WORDS
+returns-then-list-lt-LIST_WORDS c = short _ c.if-list-lt-LIST_WORDS.true
+
+pub accepts-requires : goal.accepts-requires
+accepts-requires c = record { header_words_in_bounds = omega arith; state_len = zero-array 32768 }
+
+pub returns-then-accepts : goal.returns-then-accepts
+returns-then-accepts c = accepted _ _ c.if-list-lt-LIST_WORDS.false c.if-accepts.true c.accepts.ensures
+
+pub returns-else-accepts : goal.returns-else-accepts
+returns-else-accepts c = refused _ _ c.if-list-lt-LIST_WORDS.false c.if-accepts.false c.accepts.ensures
