@@ -4,28 +4,28 @@ use native.Mathlib.Omega.{arith}
 use native.Mathlib.Nat.{mul-le-mul_right, add-mul, mul_assoc}
 use mathlib.Core.Path.{◌≡◌, refl, sym, ap, ap₂, ◌∙◌, subst}
 use mathlib.Core.List.{List, [], ◌∷◌, ◌++◌}
-use mathlib.Core.Bool.{Bool, true, false, ◌&&◌, ◌||◌, not, false≢true, and-true, and_assoc}
-use lib.ListN.{length, get_or, length-append}
+use mathlib.Core.Bool.{Bool, true, false, ◌&&◌, ◌||◌, not}
+use lib.ListN.{length, length-append}
 use lib.Dec.{leb, ltb, eqb}
 use lib.IntN.{ℤ, pos, negsuc}
 use lib.Signed.{le_z}
 use borrow.Author.Tests.{leb-true, ltb-true, le-leb, lt-ltb}
-use Rattle.model.specs.Test.{if◌then◌else◌, within, every, total}
+use Rattle.model.specs.Test.{if◌then◌else◌, within, every}
 use Rattle.model.specs.Tables.{Array, Tables, cells, array_at, local, inside, operator_in, operator_byte, arity_at}
 use Rattle.model.specs.Update.{Tree, Trees, Update, Listed, size, sizes, nodes}
 use Rattle.model.specs.Update.Tree.{cell, number, constant, operator}
 use Rattle.model.specs.Update.Trees.{nil, cons}
-use Rattle.reader.specs.Field.{Bytes, Outcome, got, no, Reader, and_then, give, refuse, little_endian, field, byte, u16, u32, i8, i16, times}
+use Rattle.reader.specs.Field.{Bytes, Outcome, got, no, Reader, give, refuse, little_endian, field, byte, u16, u32, i8, i16, times}
 use Rattle.reader.specs.Syntax.{Form, Expr, Exprs, Item, Items, Program, count, counts}
 use Rattle.reader.specs.Syntax.Expr.{read, apply, literal, named}
 use Rattle.reader.specs.Syntax.Exprs.{none, more}
 use Rattle.reader.specs.Syntax.Item.{statement, loop, guard}
 use Rattle.reader.specs.Syntax.Items.{end, item}
-use Rattle.unroller.specs.Run.{Ran, ok, stop, ◌>>=◌, ask, value_at, in_extent, cell_from, cell_at, tree, trees, readable, Done, fits16, update, indices, rounds, run, runs, nothing, run_program}
+use Rattle.unroller.specs.Run.{Ran, ok, value_at, in_extent, cell_from, cell_at, tree, trees, readable, Done, fits16, update, indices, rounds, run, runs, nothing, run_program}
 use Rattle.unroller.specs.Allowed.{locals_last, allowed_array, proper, propers, may_write, allowed_update, allowed}
 use Rattle.unroller.specs.Unroll.{unrolled}
 use Rattle.unroller.specs.Fits.{fits8, narrow}
-use Rattle.unroller.proofs.Parts.{both, join, array_whole, room, TablesParts, ListParts, list-whole, nodes_snoc}
+use Rattle.unroller.proofs.Parts.{both, join, array_whole, room, TablesParts, list-whole, nodes_snoc}
 use Rattle.model.proofs.Operators.{in_version}
 use Rattle.reader.proofs.Binds.{read_by, asked_by, choose_by, got_is}
 use Rattle.reader.specs.Grammar.{head, operator_of, operators, extent, array, arrays, tables, form, subscripts, index, read_of, literal_of, constant_of, apply_of, node, applied, expression, statement_of, loop_of, guard_of, step, items, item_of, nested, body, program, read_program}

@@ -8,7 +8,6 @@ use lib.ListN.{length, get_or, drop, take, length-append, get_or-eq_default, get
 use lib.Seq.{get_or-append_seam}
 use lib.Dec.{eqb, ltb}
 use borrow.Author.Tests.{lt-ltb, le-ltb, lt-leb, le-leb, ltb-true, ltb-false, eqb-true, eqb-false}
-use Rattle.model.specs.Test.{within}
 use Rattle.model.specs.Tables.{Array, cells, array_at}
 use Rattle.unroller.specs.Words.{Out, got, none, and_then, zeros}
 use Rattle.unroller.specs.Decode.{operators, array, arrays, tables}

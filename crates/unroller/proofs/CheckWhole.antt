@@ -1,13 +1,13 @@
 -- The whole list.
 use mathlib.Core.Path.{◌≡◌, refl, sym, ◌∙◌}
-use Prim.Native.Nat.{ℕ, zero, suc, ◌-◌, ◌<◌, ◌≤◌}
+use Prim.Native.Nat.{ℕ, zero, suc, ◌<◌, ◌≤◌}
 use mathlib.Core.List.{List, []}
 use mathlib.Core.Bool.{Bool, true, false}
 use native.Mathlib.Omega.{arith}
 use lib.ListN.{length, get_or, take, drop, replicate, length-replicate}
 use borrow.Author.Tests.{lt-leb, le-leb}
 use Rattle.unroller.specs.Words.{Out, got, none, and_then, is_got}
-use Rattle.unroller.specs.Decode.{tables, updates, list, accepted as question}
+use Rattle.unroller.specs.Decode.{updates, list, accepted as question}
 use Rattle.unroller.specs.Unroll.{check_reply}
 use Rattle.unroller.specs.CheckAnswers.{checked_says, Header, Follow}
 use Rattle.unroller.specs.declared.lists.Checked.TheVariants as checked

@@ -1,27 +1,27 @@
 -- An allowed list is read back from its words.
-use mathlib.Core.Path.{◌≡◌, refl, sym, ap, ◌∙◌}
-use Prim.Native.Nat.{ℕ, zero, suc, ◌+◌, ◌-◌, ◌*◌, ◌<◌, ◌≤◌}
+use mathlib.Core.Path.{◌≡◌, refl}
+use Prim.Native.Nat.{ℕ, zero, suc, ◌+◌, ◌-◌, ◌*◌, ◌≤◌}
 use mathlib.Core.List.{List, [], ◌∷◌, ◌++◌, append-nil, append_assoc}
-use mathlib.Core.Bool.{Bool, true, false, ◌&&◌, ◌||◌, not, false≢true}
+use mathlib.Core.Bool.{Bool, true, false, ◌||◌, not, false≢true}
 use native.Mathlib.Omega.{arith}
-use mathlib.Core.Option.{Option, some}
+use mathlib.Core.Option.{some}
 use lib.ListN.{length, replicate, length-replicate, length-append}
-use lib.Dec.{eqb, leb, ltb}
+use lib.Dec.{ltb}
 use borrow.Author.Tests.{lt-ltb, le-leb}
 use mir.Syntax.{w32}
-use mir.Val.{to_z, of_z}
+use mir.Val.{of_z}
 use mir.Facts.{to_z-of_z, Fits-of_z}
-use Rattle.model.specs.Test.{if◌then◌else◌, within, every}
-use Rattle.model.specs.Tables.{Array, Tables, cells, array_at, local, starts, inside, operator_byte, arity_at}
-use Rattle.model.specs.Update.{Tree, Trees, Update, Listed, size, nodes, written}
+use Rattle.model.specs.Test.{within, every}
+use Rattle.model.specs.Tables.{Array, Tables, cells, local, operator_byte, arity_at}
+use Rattle.model.specs.Update.{Tree, Trees, Update, Listed, size, nodes}
 use Rattle.model.specs.Update.Tree.{cell, number, constant, operator}
 use Rattle.model.specs.Update.Trees.{nil, cons}
 use Rattle.unroller.specs.Run.{readable, readables}
-use Rattle.unroller.specs.Words.{Out, got, none, Reader, and_then, give, word, ask, times, zeros, is_got, all_zero}
+use Rattle.unroller.specs.Words.{got, times, zeros, all_zero}
 use Rattle.unroller.specs.Allowed.{locals_last, allowed_array, proper, propers, may_write, allowed_update, read_all, allowed}
 use Rattle.unroller.specs.Layout.{padded, array_words, arrays_words, table_words, tree_words, trees_words, update_words, updates_words, words, layout}
 use Rattle.unroller.specs.Decode.{tested, operators, extents, array, arrays, tables, may_read, applied, node, operates, expr, update, updates, list, decode}
-use Rattle.unroller.proofs.Parts.{both, join, within-high, ArrayParts, array_parts, room, TablesParts, ListParts, list-parts, signed-fits, nodes_snoc}
+use Rattle.unroller.proofs.Parts.{both, within-high, ArrayParts, array_parts, room, TablesParts, list-parts, signed-fits, nodes_snoc}
 
 zeros_in : (n : ℕ) (rest : List ℕ) → zeros n (replicate n 0 ++ rest) ≡ got 0 rest
 unfolding zeros

@@ -1,6 +1,6 @@
 -- Words that lay out a list are its layout, and the list is allowed.
 use mathlib.Core.Path.{◌≡◌, refl, sym, ap, ◌∙◌, subst}
-use Prim.Native.Nat.{ℕ, zero, suc, ◌+◌, ◌-◌, ◌*◌, ◌<◌, ◌≤◌}
+use Prim.Native.Nat.{ℕ, zero, suc, ◌+◌, ◌-◌, ◌*◌, ◌≤◌}
 use mathlib.Core.List.{List, [], ◌∷◌, ◌++◌, append-nil, append_assoc}
 use mathlib.Core.Bool.{Bool, true, false, ◌&&◌, ◌||◌, not}
 use mathlib.Core.Option.{Option, some}
@@ -9,19 +9,19 @@ use lib.ListN.{length, replicate, length-replicate, length-append}
 use lib.Dec.{eqb, leb, ltb}
 use borrow.Author.Tests.{leb-true, ltb-true, eqb-true}
 use mir.Syntax.{w32}
-use mir.Val.{to_z, of_z, Fits as Bits}
+use mir.Val.{to_z, Fits as Bits}
 use mir.Facts.{of_z-to_z, sfits_to_z}
 use Rattle.model.specs.Test.{if◌then◌else◌, within, every}
 use Rattle.model.specs.Tables.{Array, Tables, cells, array_at, local, starts, inside, operator_byte, arity_at}
 use Rattle.model.specs.Update.{Tree, Trees, Update, Listed, size, nodes, written}
-use Rattle.model.specs.Update.Tree.{cell, number, constant, operator}
+use Rattle.model.specs.Update.Tree.{cell, number, constant}
 use Rattle.model.specs.Update.Trees.{nil, cons}
 use Rattle.unroller.specs.Run.{readable, readables}
 use Rattle.unroller.specs.Words.{Out, got, none, Reader, and_then, give, refuse, word, ask, times, zeros, is_got, all_zero}
 use Rattle.unroller.specs.Allowed.{locals_last, allowed_array, proper, propers, may_write, allowed_update, read_all, allowed}
 use Rattle.unroller.specs.Layout.{padded, array_words, arrays_words, table_words, tree_words, trees_words, update_words, updates_words, words, layout}
 use Rattle.unroller.specs.Decode.{tested, between, operators, extents, array, arrays, tables, may_read, applied, node, operates, expr, update, updates, list, list_of, decode}
-use Rattle.unroller.proofs.Parts.{both, join, ArrayParts, array_whole, room, TablesParts, ListParts, list-whole, fits_signed, nodes_snoc}
+use Rattle.unroller.proofs.Parts.{both, join, ArrayParts, array_whole, room, TablesParts, list-whole, fits_signed, nodes_snoc}
 use Rattle.unroller.proofs.Encode.{arrays-length, decode-layout}
 
 bind_out : {A B : Type 0} (m : Out A) (f : A → Reader B) {b : B} {rest : List ℕ} → and_then m f ≡ got b rest → (a : A) × (v : List ℕ) × (m ≡ got a v) × (f a v ≡ got b rest)

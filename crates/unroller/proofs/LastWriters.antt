@@ -14,7 +14,7 @@ use Rattle.model.specs.Tables.{Tables}
 use Rattle.model.specs.Update.{Listed}
 use Rattle.model.specs.Reply.{left, both}
 use Rattle.model.specs.Memory.{list_words, cleared, work_left}
-use Rattle.reader.specs.Field.{Outcome, no}
+use Rattle.reader.specs.Field.{Outcome}
 use Rattle.reader.specs.Syntax.{Program}
 use Rattle.reader.specs.Grammar.{body}
 use Rattle.reader.specs.Entries.{TablesAre, tables_step, tables_in, flattened}

@@ -1,8 +1,8 @@
 -- Question 26, how long a list's words are, and how one more update is written.
 use mathlib.Core.Path.{◌≡◌, refl, sym, ap, ◌∙◌}
-use Prim.Native.Nat.{ℕ, zero, suc, ◌+◌, ◌-◌, ◌*◌, ◌<◌, ◌≤◌}
+use Prim.Native.Nat.{ℕ, zero, suc, ◌+◌, ◌-◌, ◌*◌, ◌≤◌}
 use mathlib.Core.List.{List, [], ◌∷◌, ◌++◌, append-nil, append_assoc}
-use mathlib.Core.Bool.{Bool, true, false}
+use mathlib.Core.Bool.{true, false}
 use mathlib.Core.Option.{Option, some}
 use mathlib.Core.Option.Option.{none as nothing}
 use native.Mathlib.Omega.{arith}
@@ -16,7 +16,7 @@ use Rattle.unroller.specs.Words.{Out, got, none, is_got}
 use Rattle.unroller.specs.Allowed.{allowed}
 use Rattle.unroller.specs.Layout.{arrays_words, table_words, tree_words, trees_words, update_words, updates_words, words, layout, padded}
 use Rattle.unroller.specs.Decode.{list, list_of, decode, accepted}
-use Rattle.unroller.proofs.Parts.{within-high, TablesParts, ListParts, list-parts}
+use Rattle.unroller.proofs.Parts.{within-high, TablesParts, list-parts}
 use Rattle.unroller.proofs.Encode.{arrays-length, padded-length, decode-layout}
 use Rattle.unroller.proofs.Inverse.{list_out, layout-decode}
 

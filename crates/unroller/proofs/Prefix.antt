@@ -3,20 +3,19 @@ use mathlib.Core.Path.{◌≡◌, refl, sym, ap, ap₂, ◌∙◌, subst}
 use Prim.Native.Nat.{ℕ, zero, suc, ◌+◌, ◌-◌, ◌*◌, ◌≤◌, ◌<◌}
 use native.Mathlib.Omega.{arith}
 use mathlib.Core.List.{List, [], ◌∷◌, ◌++◌, append_assoc, append-nil}
-use mathlib.Core.Bool.{Bool, true, false, ◌&&◌}
+use mathlib.Core.Bool.{true, false}
 use lib.ListN.{length, get_or, take, length-append}
 use lib.Seq.{sets, length-sets}
 use lib.Dec.{eqb}
 use lib.IntN.{ℤ}
 use borrow.Author.Tests.{eqb-true}
-use Rattle.model.specs.Test.{if◌then◌else◌, every}
 use Rattle.model.specs.Tables.{Tables, operator_byte, arity_at}
 use Rattle.model.specs.Update.{Tree, Trees}
 use Rattle.model.specs.Update.Tree.{operator}
 use Rattle.model.specs.Update.Trees.{cons}
-use Rattle.reader.specs.Field.{Outcome, got, no, Reader, byte, times, refuse}
-use Rattle.reader.specs.Syntax.{Form, Expr, Exprs, count, counts}
-use Rattle.reader.specs.Syntax.Expr.{read, apply, literal, named}
+use Rattle.reader.specs.Field.{got, byte, times, refuse}
+use Rattle.reader.specs.Syntax.{Expr, Exprs, count, counts}
+use Rattle.reader.specs.Syntax.Expr.{apply}
 use Rattle.reader.specs.Syntax.Exprs.{none, more}
 use Rattle.reader.specs.Grammar.{form, subscripts, index, read_of, literal_of, constant_of, apply_of, node, applied}
 use Rattle.reader.specs.Field.{u32}

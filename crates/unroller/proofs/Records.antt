@@ -1,26 +1,24 @@
 -- An expression's records in the list: what each writer leaves, from what it called.
 use mathlib.Core.Path.{◌≡◌, refl, sym, ap, ap₂, ◌∙◌, subst}
-use Prim.Native.Nat.{ℕ, zero, suc, ◌+◌, ◌*◌, ◌≤◌, ◌<◌}
+use Prim.Native.Nat.{ℕ, suc, ◌+◌, ◌*◌, ◌≤◌, ◌<◌}
 use native.Mathlib.Omega.{arith}
 use mathlib.Core.List.{List, [], ◌∷◌, ◌++◌}
-use mathlib.Core.Bool.{true, false}
+use mathlib.Core.Bool.{true}
 use lib.ListN.{length, get_or, take, set, length-append}
-use lib.Seq.{sets, length-sets}
-use lib.Dec.{eqb}
+use lib.Seq.{sets}
 use lib.IntN.{ℤ}
-use borrow.Author.Tests.{eqb-true, ne_eqb}
+use borrow.Author.Tests.{ne_eqb}
 use mir.Syntax.{w32}
 use mir.Val.{of_z, to_z, SFits}
 use mir.Facts.{to_z-of_z}
 use Rattle.model.specs.Tables.{Tables, array_at, inside}
 use Rattle.model.specs.Update.{Tree, Trees, size, sizes}
-use Rattle.model.specs.Update.Tree.{cell as cell_of, number, operator}
-use Rattle.model.specs.Update.Trees.{cons}
-use Rattle.reader.specs.Field.{Bytes, Outcome, got, no, byte, u32, times}
+use Rattle.model.specs.Update.Tree.{cell as cell_of}
+use Rattle.reader.specs.Field.{Bytes, Outcome, got, no, u32, times}
 use Rattle.reader.specs.Syntax.{Form, Expr, Exprs, count, counts}
 use Rattle.reader.specs.Syntax.Expr.{read, apply, literal, named}
 use Rattle.reader.specs.Syntax.Exprs.{none, more}
-use Rattle.reader.specs.Grammar.{form, subscripts, index, read_of, literal_of, constant_of, apply_of, node, applied}
+use Rattle.reader.specs.Grammar.{form, subscripts, index, read_of, literal_of, constant_of}
 use Rattle.reader.specs.Answers.{field_says}
 use Rattle.reader.specs.declared.fields.Field.{Field}
 use Rattle.reader.specs.declared.fields.Field.TheVariants as field
@@ -30,7 +28,7 @@ use Rattle.reader.proofs.Flattened.{sets_append}
 use Rattle.unroller.specs.Run.{Ran, ok, stop, ◌>>=◌, cell_at, tree, trees}
 use Rattle.unroller.specs.Forms.{Values}
 use Rattle.unroller.specs.Allowed.{allowed_tables}
-use Rattle.unroller.specs.Layout.{tree_words, trees_words}
+use Rattle.unroller.specs.Layout.{tree_words}
 use Rattle.unroller.specs.Stands.{bases_of}
 use Rattle.unroller.specs.Writes.{CellIs, CellsFrom, CellOf, WroteIs, WritesRead, WritesLiteral, WritesConstant, WritesLeaf}
 use Rattle.unroller.specs.declared.forms.Valued.{Valued}

@@ -10,7 +10,7 @@ use lib.Signed.{le_z}
 use native.Mathlib.Omega.{arith}
 use Rattle.model.specs.Test.{if◌then◌else◌, within}
 use Rattle.model.specs.Tables.{Array, Tables, cells, local}
-use Rattle.model.specs.Update.{Tree, Update, Listed}
+use Rattle.model.specs.Update.{Update, Listed}
 use Rattle.reader.specs.Field.{Outcome, got, no, byte, times}
 use Rattle.reader.specs.Syntax.{Form, Expr, Item, Items, Program, count}
 use Rattle.reader.specs.Syntax.Item.{statement, loop, guard}

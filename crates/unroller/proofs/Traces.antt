@@ -17,7 +17,6 @@ use Rattle.model.specs.Tables.{Tables}
 use Rattle.reader.specs.Field.{Outcome, got, Reader}
 use Rattle.reader.specs.Syntax.{Form, Expr, Item, Items, count}
 use Rattle.reader.specs.Syntax.Item.{statement, loop, guard}
-use Rattle.reader.specs.Syntax.Items.{item}
 use Rattle.reader.specs.Grammar.{form, step, subscripts, index, expression, statement_of, item_of, nested, items, body}
 use Rattle.reader.specs.Answers.{field_says, place_says, through, ended}
 use Rattle.reader.specs.Entries.{padded, items_step, expression_step}

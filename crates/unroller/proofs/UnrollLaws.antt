@@ -10,7 +10,7 @@ use Rattle.model.specs.Reply.{left}
 use Rattle.reader.specs.Field.{Outcome, got, no}
 use Rattle.reader.specs.Syntax.{Program}
 use Rattle.reader.specs.Grammar.{read_program}
-use Rattle.reader.specs.Verdicts.{Said, accepted, refused, said, verdict_says}
+use Rattle.reader.specs.Verdicts.{accepted, refused, said, verdict_says}
 use Rattle.reader.specs.declared.Verdict.{Verdict}
 use Rattle.reader.specs.declared.Verdict.TheVariants as verdict
 use Rattle.unroller.specs.Run.{run_program}

@@ -1,19 +1,19 @@
 -- An accepted program, from its tables to its updates in the list.
 use mathlib.Core.Path.{◌≡◌, refl, sym, ap, ap₂, ◌∙◌, subst}
-use Prim.Native.Nat.{ℕ, ◌+◌, ◌-◌, ◌≤◌, ◌<◌}
+use Prim.Native.Nat.{ℕ, ◌+◌, ◌-◌, ◌≤◌}
 use native.Mathlib.Omega.{arith}
 use mathlib.Core.List.{List, [], ◌∷◌, append-nil}
 use mathlib.Core.Bool.{Bool, true, false}
-use lib.ListN.{length, get_or, take, replicate, length-replicate}
+use lib.ListN.{length, get_or, replicate, length-replicate}
 use lib.Seq.{sets, length-sets}
 use lib.Dec.{leb, eqb}
-use lib.IntN.{ℤ, pos}
+use lib.IntN.{pos}
 use Rattle.model.specs.Test.{if◌then◌else◌}
-use Rattle.model.specs.Tables.{Array, Tables, cells, inside}
-use Rattle.model.specs.Memory.{list_words, cleared}
+use Rattle.model.specs.Tables.{Array, Tables, cells}
+use Rattle.model.specs.Memory.{cleared}
 use Rattle.reader.specs.Field.{Outcome, got, no}
 use Rattle.reader.specs.Syntax.{Items, Program}
-use Rattle.reader.specs.Grammar.{tables, body, items, item_of, nested, program, read_program}
+use Rattle.reader.specs.Grammar.{tables, body, program, read_program}
 use Rattle.reader.specs.Answers.{placed}
 use Rattle.reader.specs.Entries.{unpacked, packed, bases, TablesAre, packed_in, viewed, tables_in, flattened, tables_step}
 use Rattle.reader.specs.declared.tables.Tables.{Tables as Packed}

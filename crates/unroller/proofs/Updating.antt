@@ -10,8 +10,8 @@ use lib.Dec.{ltb, leb, eqb}
 use lib.IntN.{ℤ, pos, negsuc}
 use borrow.Author.Tests.{le-leb, lt-leb, lt-ltb, le-ltb, ltb-true, ltb-false, leb-true, leb-false}
 use Rattle.model.specs.Tables.{Tables, array_at, inside}
-use Rattle.model.specs.Update.{Tree, Update, size, nodes}
-use Rattle.model.specs.Update.Tree.{cell as cell_of, number, operator}
+use Rattle.model.specs.Update.{Tree, Update, size}
+use Rattle.model.specs.Update.Tree.{cell as cell_of, operator}
 use Rattle.model.specs.Update.Trees.{cons}
 use Rattle.reader.specs.Field.{Bytes, Outcome, got, no, times}
 use Rattle.reader.specs.Syntax.{Form, Expr, Exprs, count}

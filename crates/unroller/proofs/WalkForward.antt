@@ -16,7 +16,6 @@ use Rattle.reader.proofs.Depth.{items-shallow}
 use Rattle.reader.proofs.Forward.{Past, held-got, items_of-held}
 use Rattle.unroller.specs.Walk.{Progress, on}
 use Rattle.unroller.specs.WalkItems.{Passes}
-use Rattle.unroller.specs.declared.walk.Walk.{Walk}
 use Rattle.unroller.specs.declared.walk.Walk.TheVariants as walk
 
 pub item_forward : (s : List ℕ) (t : Tables) (left loops code at : ℕ) {i : Item} {next : ℕ} → at < length s

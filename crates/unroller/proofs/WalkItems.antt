@@ -1,29 +1,28 @@
 -- The walk over items, loops and guards answers what their run does: a law for each step of the code.
 use mathlib.Core.Path.{◌≡◌, refl, sym, ap, ap₂, ◌∙◌, subst}
-use Prim.Native.Nat.{ℕ, zero, suc, ◌+◌, ◌-◌, ◌≤◌, ◌<◌}
+use Prim.Native.Nat.{ℕ, zero, suc, ◌+◌, ◌≤◌, ◌<◌}
 use native.Mathlib.Omega.{arith}
 use native.Mathlib.Numerals.{add-one}
 use mathlib.Core.List.{List, [], ◌∷◌, ◌++◌}
-use mathlib.Core.Bool.{Bool, true, false, ◌&&◌, ◌||◌, not, false≢true}
+use mathlib.Core.Bool.{Bool, true, false, ◌&&◌, false≢true}
 use lib.ListN.{length, get_or, take, set, length-set}
 use lib.Seq.{take-suc-set}
 use lib.Dec.{eqb, leb, ltb, leb-zero}
-use lib.IntN.{ℤ, pos, negsuc, ◌+ℤ◌}
+use lib.IntN.{ℤ, pos, negsuc}
 use lib.Signed.{le_z, lt_z}
 use borrow.Author.Tests.{eqb-true, ne_eqb, le-leb, lt-leb, ltb-true, ltb-false}
-use Rattle.model.specs.Test.{if◌then◌else◌}
 use Rattle.model.specs.Tables.{Tables}
-use Rattle.reader.specs.Field.{Outcome, got, no, Reader, and_then, byte, give}
+use Rattle.reader.specs.Field.{Outcome, got, Reader, byte, give}
 use Rattle.reader.specs.Syntax.{Form, Item, Items}
-use Rattle.reader.specs.Syntax.Item.{statement, loop, guard}
+use Rattle.reader.specs.Syntax.Item.{loop, guard}
 use Rattle.reader.specs.Syntax.Items.{end, item}
-use Rattle.reader.specs.Grammar.{form, step, statement_of, loop_of, guard_of, item_of, nested, items, body}
+use Rattle.reader.specs.Grammar.{form, step, loop_of, guard_of, item_of, nested, items, body}
 use Rattle.reader.proofs.Binds.{not-got, read_by, choose_by}
 use Rattle.reader.proofs.Bytes.{byte_is, byte-not}
 use Rattle.unroller.specs.Run.{Ran, ok, stop, ◌>>=◌, ask, value_at, fits16, Done, goes_on, indices, rounds, run, runs}
 use Rattle.unroller.specs.Forms.{Values}
-use Rattle.unroller.specs.Walk.{Progress, on, Holds, Walked, Based, RunsStatement, RunsItem, RunsItems}
-use Rattle.unroller.specs.WalkItems.{Ends, within16, round, RangeIs, Steps, Ranges, Moves, Passes, RunsNested, RunsRound, RunsRounds}
+use Rattle.unroller.specs.Walk.{Progress, on, Holds, Walked, RunsStatement, RunsItem, RunsItems}
+use Rattle.unroller.specs.WalkItems.{Ends, within16, round, RangeIs, Ranges, Passes, RunsNested, RunsRound, RunsRounds}
 use Rattle.unroller.specs.declared.walk.Walk.{Walk}
 use Rattle.unroller.specs.declared.walk.Walk.TheVariants as walk
 use Rattle.unroller.specs.declared.forms.Valued.{Valued}

@@ -1,12 +1,12 @@
 -- The list that words lay out, if any. Each line is a word, or a part of question 26.
-use Rattle.std.specs.Prelude.{ℕ, zero, suc, ◌+◌, ◌-◌, ◌*◌, List, [], ◌∷◌, ◌++◌, Bool, true, false, ◌&&◌, ◌||◌, not, length, ltb, leb, eqb}
+use Rattle.std.specs.Prelude.{ℕ, zero, suc, ◌+◌, ◌-◌, ◌*◌, List, [], ◌∷◌, ◌++◌, Bool, false, ◌&&◌, ◌||◌, not, length, ltb, leb, eqb}
 use Rattle.std.proofs.Math.Option.{Option, some}
 use Rattle.std.proofs.Math.Option.Option.{none as nothing}
 use Rattle.std.specs.Int.{w32}
 use Rattle.std.proofs.Common.{to_z}
 use Rattle.model.specs.Test.{if◌then◌else◌, within}
 use Rattle.model.specs.Tables.{Array, Tables, cells, array_at, local, starts, inside, operator_byte, arity_at}
-use Rattle.model.specs.Update.{Tree, Trees, Update, Listed, size, nodes, written}
+use Rattle.model.specs.Update.{Tree, Update, Listed, size, nodes, written}
 use Rattle.model.specs.Update.Tree.{cell, number, constant, operator}
 use Rattle.model.specs.Update.Trees.{nil, cons}
 use Rattle.unroller.specs.Words.{Out, got, none, Reader, and_then, ◌>>=◌, give, refuse, ask, word, times, zeros, is_got, all_zero}

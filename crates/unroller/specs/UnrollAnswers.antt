@@ -1,7 +1,7 @@
 -- What the unroller's answer says, and what its private functions leave in the lent list.
-use Rattle.std.specs.Prelude.{ℕ, zero, suc, ◌+◌, ◌*◌, ◌≤◌, ◌≡◌, List, [], ◌∷◌, ◌++◌, length, get_or}
+use Rattle.std.specs.Prelude.{ℕ, zero, suc, ◌+◌, ◌*◌, ◌≡◌, List, [], ◌∷◌, ◌++◌, length, get_or}
 use Rattle.model.specs.Reply.{left, both}
-use Rattle.model.specs.Memory.{list_words, cleared}
+use Rattle.model.specs.Memory.{cleared}
 use Rattle.reader.specs.Field.{got}
 use Rattle.reader.specs.Syntax.{Program}
 use Rattle.reader.specs.Grammar.{read_program}

@@ -1,7 +1,7 @@
 -- How the walk over an accepted file's bytes stands beside the run of its items. The contracts of the unroller's private functions cite these.
-use Rattle.std.specs.Prelude.{ℕ, ◌+◌, ◌≤◌, ◌<◌, ◌≡◌, List, Bool, true, length, get_or, take, eqb, ℤ}
+use Rattle.std.specs.Prelude.{ℕ, ◌+◌, ◌≤◌, ◌<◌, ◌≡◌, List, true, length, get_or, take, eqb, ℤ}
 use Rattle.model.specs.Tables.{Tables, inside}
-use Rattle.model.specs.Update.{Listed, nodes, written}
+use Rattle.model.specs.Update.{nodes, written}
 use Rattle.model.specs.Memory.{list_words}
 use Rattle.reader.specs.Field.{got}
 use Rattle.reader.specs.Syntax.{Item, Items}

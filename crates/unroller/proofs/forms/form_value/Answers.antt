@@ -1,5 +1,5 @@
 use mathlib.Core.Path.{◌≡◌, sym, subst, ap, ap₂, ◌∙◌}
-use Prim.Native.Nat.{◌+◌, ◌-◌, ◌*◌, ◌≤◌, ◌<◌}
+use Prim.Native.Nat.{◌+◌, ◌*◌, ◌≤◌, ◌<◌}
 use native.Mathlib.Nat.{div-one}
 use native.Mathlib.Numerals.{add-one}
 use native.Mathlib.Omega.{arith}
@@ -15,25 +15,13 @@ use Rattle.unroller.specs.Forms.{form_sum}
 use Rattle.unroller.proofs.Sums.{rest_few, rest_first, rest_next, rest_none}
 use Rattle.unroller.proofs.forms.form_value.Goals as goal
 
-pub wide-sum-requires : goal.wide-sum-requires
-wide-sum-requires c = tt
-
-pub packed-rest-requires : goal.packed-rest-requires
-packed-rest-requires c = tt
-
 pub loop-rest-init : goal.loop-rest-init
 unfolding form_sum
 loop-rest-init c =
     let x = c.args.constant in
     let f : SFits w16 x = c.ranges.constant in
-    let e : to_z w32 (of_z w32 c.wide-sum.result) ≡ x = to_z-of_z (sfits_of c.wide-sum.type_inv) ∙ c.wide-sum.ensures ∙ to_z-of_z f in
+    let e : to_z w32 (of_z w32 c.wide-sum.result) ≡ x = to_z-of_z {w = w32} (sfits_of c.wide-sum.type_inv) ∙ c.wide-sum.ensures ∙ to_z-of_z f in
     (omega arith, c.packed-rest.type_inv, sym (div-one _), e ∙ sym (to_z-of_z f), subst (λ (z : ℤ). nat_abs z ≤ 32768) (sym e) (abs_sfits f))
-
-pub overflow_cast-rest : goal.overflow_cast-rest
-overflow_cast-rest c = record { fits = omega arith }
-
-pub i8_of-requires : goal.i8_of-requires
-i8_of-requires c = tt
 
 pub offset_bounds-indices-k : goal.offset_bounds-indices-k
 offset_bounds-indices-k c = let i = c.loop-rest.invariant in let h = rest_few _ _ _ i.1 i.0 i.2 (λ e. omega arith) in omega arith
@@ -57,7 +45,7 @@ loop-rest-preserved c =
     let i = c.loop-rest.invariant in
     let w = c.packed-rest.result in
     let rest = c.loop-rest.rest in
-    let sum = to_z w32 c.loop-rest.sum in
+    let sum = to_z w32 c.loop-rest.sum-bits in
     let a = c.args in
     let h : k < 8 = rest_few w k rest i.1 i.0 i.2 (λ e. omega arith) in
     let x = get_or (bytes_of 8 w) k (pos 0) in
@@ -65,7 +53,7 @@ loop-rest-preserved c =
     let fx : SFits w8 c.i8_of.result = sfits_of c.i8_of.type_inv in
     let ex : c.i8_of.result ≡ x = c.i8_of.ensures ∙ rest_first w k rest i.1 i.0 i.2 h in
     let fy : SFits w16 y = sfits_of c.form_step-arg-1.given in
-    let r : to_z w32 (of_z w32 c.form_step-sum.result) ≡ c.form_step-sum.result = to_z-of_z (sfits_of c.form_step-sum.type_inv) in
+    let r : to_z w32 (of_z w32 c.form_step-sum.result) ≡ c.form_step-sum.result = to_z-of_z {w = w32} (sfits_of c.form_step-sum.type_inv) in
     let b : nat_abs c.form_step-sum.result ≤ 32768 + (k + 1) * 4194304 = omega (arith, c.form_step-sum.ensures.bound, i.4) in
     let e : to_z w32 (of_z w32 c.form_step-sum.result) ≡ sum +ℤ (x *ℤ y) =
     r ∙ c.form_step-sum.ensures.value ∙ ap₂ (λ (p q : ℤ). sum +ℤ (p *ℤ q)) (to_z-of_z fx ∙ ex) (to_z-of_z fy) in (
@@ -79,5 +67,8 @@ loop-rest-preserved c =
 pub returns : goal.returns
 returns c =
     let i = c.loop-rest.invariant in
-    let a = c.args in record { value = i.3 ∙ ap (λ (z : ℤ). form_sum z (bytes_of 8 c.packed-rest.result) a.indices c.loop-rest.k) (to_z-of_z c.ranges.constant)
-          ∙ rest_none _ _ _ i.1 i.0 i.2 a.constant a.coefficients a.indices c.packed-rest.ensures (omega arith); bound = omega (arith, i.4, i.0) }
+    let a = c.args in record {
+      value = i.3 ∙ ap (λ (z : ℤ). form_sum z (bytes_of 8 c.packed-rest.result) a.indices c.loop-rest.k) (to_z-of_z c.ranges.constant)
+          ∙ rest_none _ _ _ i.1 i.0 i.2 a.constant a.coefficients a.indices c.packed-rest.ensures (omega arith);
+      bound = omega (arith, i.4, i.0);
+    }

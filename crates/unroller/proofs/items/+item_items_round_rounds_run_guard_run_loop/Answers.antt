@@ -11,7 +11,7 @@ use mir.Val.{to_z, of_z}
 use mir.Facts.{to_z-of_z}
 use Rattle.model.proofs.Abs.{widens}
 use Rattle.reader.specs.Entries.{viewed, tables_in}
-use Rattle.unroller.specs.Run.{goes_on, indices as index_values}
+use Rattle.unroller.specs.Run.{indices as index_values}
 use Rattle.unroller.specs.Walk.{progress, on, RunsItem, RunsItems}
 use Rattle.unroller.specs.WalkItems.{RunsRounds}
 use Rattle.unroller.specs.declared.walk.Walk.TheVariants as walk
@@ -93,22 +93,22 @@ pub rounds-goes_on-requires : goal.rounds-goes_on-requires
 rounds-goes_on-requires t c = tt
 
 pub rounds-overflow_cast-index-in-loop-indices : goal.rounds-overflow_cast-index-in-loop-indices
-rounds-overflow_cast-index-in-loop-indices t c = let a = c.args in let s = a.program.now in let t = tables_in a.tables.now in let b = (viewed a.tables.now).bases in let f = c.ranges in let nz = c.requires.1 in let I = to_z w32 c.loop-indices.index in let k = c.loop-indices.invariant.1.0 in let p = c.loop-indices.invariant.1.1 in let w = c.loop-indices.invariant.1.2 in let g = turn_goes a.first a.last a.step f.first f.last f.step I c.goes_on.result true c.goes_on.ensures c.loop-indices-test.true in turn-fits a.first a.last a.step f.first f.last f.step nz I k p g
+rounds-overflow_cast-index-in-loop-indices t c = let a = c.args in let s = a.program.now in let t = tables_in a.tables.now in let b = (viewed a.tables.now).bases in let f = c.ranges in let nz = c.requires.1 in let I = to_z w32 c.loop-indices.index-bits in let k = c.loop-indices.invariant.1.0 in let p = c.loop-indices.invariant.1.1 in let w = c.loop-indices.invariant.1.2 in let g = turn_goes a.first a.last a.step f.first f.last f.step I c.goes_on.result true c.goes_on.ensures c.loop-indices-test.true in turn-fits a.first a.last a.step f.first f.last f.step nz I k p g
 
 pub rounds-shape_of-list-in-No : goal.rounds-shape_of-list-in-No
 rounds-shape_of-list-in-No t c = c.round.auto.list ∙ c.loop-indices.invariant.0
 
 pub rounds-returns-in-No : goal.rounds-returns-in-No
-rounds-returns-in-No t c = let a = c.args in let s = a.program.now in let t = tables_in a.tables.now in let b = (viewed a.tables.now).bases in let f = c.ranges in let nz = c.requires.1 in let I = to_z w32 c.loop-indices.index in let k = c.loop-indices.invariant.1.0 in let p = c.loop-indices.invariant.1.1 in let w = c.loop-indices.invariant.1.2 in let g = turn_goes a.first a.last a.step f.first f.last f.step I c.goes_on.result true c.goes_on.ensures c.loop-indices-test.true in turn-back a.first a.last a.step f.first f.last f.step (λ z l i. RunsRounds s a.at a.body t b a.left a.loops a.indices z l 65536 i 0 (progress a.made a.nodes a.updates) a.list.now a.flags.now (walk.No c.in-No.number c.in-No.place) c.round.new.list c.round.new.flags) (w _ c.round.new.list c.round.new.flags (rounds-stop s a.at a.body t b a.left a.loops a.indices (to_z w16 (of_z w16 a.step)) (to_z w16 (of_z w16 a.last)) k I c.loop-indices.past (progress c.loop-indices.m c.loop-indices.n c.loop-indices.u) c.loop-indices.list c.loop-indices.flags (to_z w16 (of_z w16 I)) (index_values (k - 1) (to_z w16 (of_z w16 a.step)) (to_z w16 (of_z w16 a.last)) (to_z w32 (of_z w32 (I +ℤ to_z w32 (of_z w32 (to_z w16 (of_z w16 a.step))))))) (turn_more a.first a.last a.step f.first f.last f.step nz I k p g) c.round.result c.in-No.number c.in-No.place c.round.new.list c.round.new.flags c.round.new.list c.round.new.flags c.in-No.is c.round.ensures))
+rounds-returns-in-No t c = let a = c.args in let s = a.program.now in let t = tables_in a.tables.now in let b = (viewed a.tables.now).bases in let f = c.ranges in let nz = c.requires.1 in let I = to_z w32 c.loop-indices.index-bits in let k = c.loop-indices.invariant.1.0 in let p = c.loop-indices.invariant.1.1 in let w = c.loop-indices.invariant.1.2 in let g = turn_goes a.first a.last a.step f.first f.last f.step I c.goes_on.result true c.goes_on.ensures c.loop-indices-test.true in turn-back a.first a.last a.step f.first f.last f.step (λ z l i. RunsRounds s a.at a.body t b a.left a.loops a.indices z l 65536 i 0 (progress a.made a.nodes a.updates) a.list.now a.flags.now (walk.No c.in-No.number c.in-No.place) c.round.new.list c.round.new.flags) (w _ c.round.new.list c.round.new.flags (rounds-stop s a.at a.body t b a.left a.loops a.indices (to_z w16 (of_z w16 a.step)) (to_z w16 (of_z w16 a.last)) k I c.loop-indices.past (progress c.loop-indices.m c.loop-indices.n c.loop-indices.u) c.loop-indices.list c.loop-indices.flags (to_z w16 (of_z w16 I)) (index_values (k - 1) (to_z w16 (of_z w16 a.step)) (to_z w16 (of_z w16 a.last)) (to_z w32 (of_z w32 (I +ℤ to_z w32 (of_z w32 (to_z w16 (of_z w16 a.step))))))) (turn_more a.first a.last a.step f.first f.last f.step nz I k p g) c.round.result c.in-No.number c.in-No.place c.round.new.list c.round.new.flags c.round.new.list c.round.new.flags c.in-No.is c.round.ensures))
 
 pub rounds-overflow_add-index : goal.rounds-overflow_add-index
-rounds-overflow_add-index t c = let a = c.args in let s = a.program.now in let t = tables_in a.tables.now in let b = (viewed a.tables.now).bases in let f = c.ranges in let nz = c.requires.1 in let I = to_z w32 c.loop-indices.index in let k = c.loop-indices.invariant.1.0 in let p = c.loop-indices.invariant.1.1 in let w = c.loop-indices.invariant.1.2 in let g = turn_goes a.first a.last a.step f.first f.last f.step I c.goes_on.result true c.goes_on.ensures c.loop-indices-test.true in turn_adds a.first a.last a.step f.first f.last f.step nz I k p g
+rounds-overflow_add-index t c = let a = c.args in let s = a.program.now in let t = tables_in a.tables.now in let b = (viewed a.tables.now).bases in let f = c.ranges in let nz = c.requires.1 in let I = to_z w32 c.loop-indices.index-bits in let k = c.loop-indices.invariant.1.0 in let p = c.loop-indices.invariant.1.1 in let w = c.loop-indices.invariant.1.2 in let g = turn_goes a.first a.last a.step f.first f.last f.step I c.goes_on.result true c.goes_on.ensures c.loop-indices-test.true in turn_adds a.first a.last a.step f.first f.last f.step nz I k p g
 
 pub rounds-loop-indices-smaller : goal.rounds-loop-indices-smaller
-rounds-loop-indices-smaller t c = let a = c.args in let s = a.program.now in let t = tables_in a.tables.now in let b = (viewed a.tables.now).bases in let f = c.ranges in let nz = c.requires.1 in let I = to_z w32 c.loop-indices.index in let k = c.loop-indices.invariant.1.0 in let p = c.loop-indices.invariant.1.1 in let w = c.loop-indices.invariant.1.2 in let g = turn_goes a.first a.last a.step f.first f.last f.step I c.goes_on.result true c.goes_on.ensures c.loop-indices-test.true in turn_less a.first a.last a.step f.first f.last f.step nz I k p g
+rounds-loop-indices-smaller t c = let a = c.args in let s = a.program.now in let t = tables_in a.tables.now in let b = (viewed a.tables.now).bases in let f = c.ranges in let nz = c.requires.1 in let I = to_z w32 c.loop-indices.index-bits in let k = c.loop-indices.invariant.1.0 in let p = c.loop-indices.invariant.1.1 in let w = c.loop-indices.invariant.1.2 in let g = turn_goes a.first a.last a.step f.first f.last f.step I c.goes_on.result true c.goes_on.ensures c.loop-indices-test.true in turn_less a.first a.last a.step f.first f.last f.step nz I k p g
 
 pub rounds-loop-indices-preserved : goal.rounds-loop-indices-preserved
-rounds-loop-indices-preserved t c = let a = c.args in let s = a.program.now in let t = tables_in a.tables.now in let b = (viewed a.tables.now).bases in let f = c.ranges in let nz = c.requires.1 in let I = to_z w32 c.loop-indices.index in let k = c.loop-indices.invariant.1.0 in let p = c.loop-indices.invariant.1.1 in let w = c.loop-indices.invariant.1.2 in let g = turn_goes a.first a.last a.step f.first f.last f.step I c.goes_on.result true c.goes_on.ensures c.loop-indices-test.true in (c.round.auto.list ∙ c.loop-indices.invariant.0, (k - 1, turn-place a.first a.last a.step f.first f.last f.step nz I k p g, λ r l f' v. w r l f' (rounds-step s a.at a.body t b a.left a.loops a.indices (to_z w16 (of_z w16 a.step)) (to_z w16 (of_z w16 a.last)) k I c.loop-indices.past (progress c.loop-indices.m c.loop-indices.n c.loop-indices.u) c.loop-indices.list c.loop-indices.flags (k - 1) (to_z w16 (of_z w16 I)) (to_z w32 (of_z w32 (I +ℤ to_z w32 (of_z w32 (to_z w16 (of_z w16 a.step)))))) (turn_more a.first a.last a.step f.first f.last f.step nz I k p g) c.round.result c.in-On.next (progress c.in-On.rounds_then c.in-On.nodes_then c.in-On.updates_then) c.round.new.list c.round.new.flags c.in-On.is c.round.ensures r l f' v)))
+rounds-loop-indices-preserved t c = let a = c.args in let s = a.program.now in let t = tables_in a.tables.now in let b = (viewed a.tables.now).bases in let f = c.ranges in let nz = c.requires.1 in let I = to_z w32 c.loop-indices.index-bits in let k = c.loop-indices.invariant.1.0 in let p = c.loop-indices.invariant.1.1 in let w = c.loop-indices.invariant.1.2 in let g = turn_goes a.first a.last a.step f.first f.last f.step I c.goes_on.result true c.goes_on.ensures c.loop-indices-test.true in (c.round.auto.list ∙ c.loop-indices.invariant.0, (k - 1, turn-place a.first a.last a.step f.first f.last f.step nz I k p g, λ r l f' v. w r l f' (rounds-step s a.at a.body t b a.left a.loops a.indices (to_z w16 (of_z w16 a.step)) (to_z w16 (of_z w16 a.last)) k I c.loop-indices.past (progress c.loop-indices.m c.loop-indices.n c.loop-indices.u) c.loop-indices.list c.loop-indices.flags (k - 1) (to_z w16 (of_z w16 I)) (to_z w32 (of_z w32 (I +ℤ to_z w32 (of_z w32 (to_z w16 (of_z w16 a.step)))))) (turn_more a.first a.last a.step f.first f.last f.step nz I k p g) c.round.result c.in-On.next (progress c.in-On.rounds_then c.in-On.nodes_then c.in-On.updates_then) c.round.new.list c.round.new.flags c.in-On.is c.round.ensures r l f' v)))
 
 pub rounds-passed-requires : goal.rounds-passed-requires
 rounds-passed-requires t c = tt
@@ -117,13 +117,13 @@ pub rounds-shape_of-list-then-past-eq0 : goal.rounds-shape_of-list-then-past-eq0
 rounds-shape_of-list-then-past-eq0 t c = c.loop-indices.invariant.0
 
 pub rounds-returns-then-past-eq0 : goal.rounds-returns-then-past-eq0
-rounds-returns-then-past-eq0 t c = let a = c.args in let s = a.program.now in let t = tables_in a.tables.now in let b = (viewed a.tables.now).bases in let f = c.ranges in let nz = c.requires.1 in let I = to_z w32 c.loop-indices.index in let k = c.loop-indices.invariant.1.0 in let p = c.loop-indices.invariant.1.1 in let w = c.loop-indices.invariant.1.2 in let g = turn_goes a.first a.last a.step f.first f.last f.step I c.goes_on.result false c.goes_on.ensures c.loop-indices-test.false in turn-back a.first a.last a.step f.first f.last f.step (λ z l i. RunsRounds s a.at a.body t b a.left a.loops a.indices z l 65536 i 0 (progress a.made a.nodes a.updates) a.list.now a.flags.now c.passed.result c.loop-indices.list c.loop-indices.flags) (w _ _ _ (rounds_none s a.at a.body t b a.left a.loops a.indices (to_z w16 (of_z w16 a.step)) (to_z w16 (of_z w16 a.last)) k I c.loop-indices.past (progress c.loop-indices.m c.loop-indices.n c.loop-indices.u) c.loop-indices.list c.loop-indices.flags c.passed.result g c.passed.ensures))
+rounds-returns-then-past-eq0 t c = let a = c.args in let s = a.program.now in let t = tables_in a.tables.now in let b = (viewed a.tables.now).bases in let f = c.ranges in let nz = c.requires.1 in let I = to_z w32 c.loop-indices.index-bits in let k = c.loop-indices.invariant.1.0 in let p = c.loop-indices.invariant.1.1 in let w = c.loop-indices.invariant.1.2 in let g = turn_goes a.first a.last a.step f.first f.last f.step I c.goes_on.result false c.goes_on.ensures c.loop-indices-test.false in turn-back a.first a.last a.step f.first f.last f.step (λ z l i. RunsRounds s a.at a.body t b a.left a.loops a.indices z l 65536 i 0 (progress a.made a.nodes a.updates) a.list.now a.flags.now c.passed.result c.loop-indices.list c.loop-indices.flags) (w _ _ _ (rounds_none s a.at a.body t b a.left a.loops a.indices (to_z w16 (of_z w16 a.step)) (to_z w16 (of_z w16 a.last)) k I c.loop-indices.past (progress c.loop-indices.m c.loop-indices.n c.loop-indices.u) c.loop-indices.list c.loop-indices.flags c.passed.result g c.passed.ensures))
 
 pub rounds-shape_of-list : goal.rounds-shape_of-list
 rounds-shape_of-list t c = c.loop-indices.invariant.0
 
 pub rounds-returns : goal.rounds-returns
-rounds-returns t c = let a = c.args in let s = a.program.now in let t = tables_in a.tables.now in let b = (viewed a.tables.now).bases in let f = c.ranges in let nz = c.requires.1 in let I = to_z w32 c.loop-indices.index in let k = c.loop-indices.invariant.1.0 in let p = c.loop-indices.invariant.1.1 in let w = c.loop-indices.invariant.1.2 in let g = turn_goes a.first a.last a.step f.first f.last f.step I c.goes_on.result false c.goes_on.ensures c.loop-indices-test.false in turn-back a.first a.last a.step f.first f.last f.step (λ z l i. RunsRounds s a.at a.body t b a.left a.loops a.indices z l 65536 i 0 (progress a.made a.nodes a.updates) a.list.now a.flags.now (on c.loop-indices.past (progress c.loop-indices.m c.loop-indices.n c.loop-indices.u)) c.loop-indices.list c.loop-indices.flags) (w _ _ _ (rounds-found s a.at a.body t b a.left a.loops a.indices (to_z w16 (of_z w16 a.step)) (to_z w16 (of_z w16 a.last)) k I c.loop-indices.past (progress c.loop-indices.m c.loop-indices.n c.loop-indices.u) c.loop-indices.list c.loop-indices.flags g (let n = c.if-past-eq0.false in omega arith)))
+rounds-returns t c = let a = c.args in let s = a.program.now in let t = tables_in a.tables.now in let b = (viewed a.tables.now).bases in let f = c.ranges in let nz = c.requires.1 in let I = to_z w32 c.loop-indices.index-bits in let k = c.loop-indices.invariant.1.0 in let p = c.loop-indices.invariant.1.1 in let w = c.loop-indices.invariant.1.2 in let g = turn_goes a.first a.last a.step f.first f.last f.step I c.goes_on.result false c.goes_on.ensures c.loop-indices-test.false in turn-back a.first a.last a.step f.first f.last f.step (λ z l i. RunsRounds s a.at a.body t b a.left a.loops a.indices z l 65536 i 0 (progress a.made a.nodes a.updates) a.list.now a.flags.now (on c.loop-indices.past (progress c.loop-indices.m c.loop-indices.n c.loop-indices.u)) c.loop-indices.list c.loop-indices.flags) (w _ _ _ (rounds-found s a.at a.body t b a.left a.loops a.indices (to_z w16 (of_z w16 a.step)) (to_z w16 (of_z w16 a.last)) k I c.loop-indices.past (progress c.loop-indices.m c.loop-indices.n c.loop-indices.u) c.loop-indices.list c.loop-indices.flags g (let n = c.if-past-eq0.false in omega arith)))
 
 pub run_guard-returns-then-left-eq0 : goal.run_guard-returns-then-left-eq0
 run_guard-returns-then-left-eq0 t c = let a = c.args in let s = a.program.now in let t = tables_in a.tables.now in let b = (viewed a.tables.now).bases in nested_none s t b a.left a.loops a.indices a.at (progress a.made a.nodes a.updates) a.list.now a.flags.now _ a.list.now a.flags.now 3 c.if-left-eq0.true

@@ -2,13 +2,10 @@ use mathlib.Core.Path.{◌≡◌}
 use mathlib.Core.List.{List}
 use Prim.Native.Nat.{ℕ, ◌+◌, ◌-◌, ◌*◌}
 use lib.ListN.{length}
-use mir.Syntax.{w16, w32}
-use mir.Val.{to_z}
 use Rattle.reader.specs.Entries.{viewed, tables_in}
 use Rattle.unroller.specs.Walk.{progress, RunsItems}
 use Rattle.unroller.specs.WalkItems.{RunsRounds}
 use Rattle.unroller.specs.declared.walk.Walk.{Walk}
-use Rattle.unroller.specs.declared.walk.Walk.TheVariants as walk
 use Rattle.unroller.proofs.Indices.{Place, dist}
 use Rattle.unroller.proofs.items.+item_items_round_rounds_run_guard_run_loop.Given as goal
 
@@ -44,10 +41,10 @@ abbrev pub invariant-rounds-loop-indices : goal.invariant-rounds-loop-indices
 invariant-rounds-loop-indices loop =
     (length loop.list ≡ length loop.initial.list)
     × ((k : ℕ)
-    × Place (to_z w16 loop.first) (to_z w16 loop.last) (to_z w16 loop.step) (to_z w32 loop.index) k
+    × Place loop.first loop.last loop.step loop.index k
     × ((r : Walk) (l f : List ℕ)
-    → RunsRounds loop.program loop.at loop.body (tables_in loop.tables) (viewed loop.tables).bases loop.left loop.loops loop.indices (to_z w16 loop.step) (to_z w16 loop.last) k (to_z w32 loop.index) loop.past (progress loop.m loop.n loop.u) loop.list loop.flags r l f
-    → RunsRounds loop.program loop.at loop.body (tables_in loop.tables) (viewed loop.tables).bases loop.left loop.loops loop.indices (to_z w16 loop.step) (to_z w16 loop.last) 65536 (to_z w16 loop.first) 0 (progress loop.initial.m loop.initial.n loop.initial.u) loop.initial.list loop.initial.flags r l f))
+    → RunsRounds loop.program loop.at loop.body (tables_in loop.tables) (viewed loop.tables).bases loop.left loop.loops loop.indices loop.step loop.last k loop.index loop.past (progress loop.m loop.n loop.u) loop.list loop.flags r l f
+    → RunsRounds loop.program loop.at loop.body (tables_in loop.tables) (viewed loop.tables).bases loop.left loop.loops loop.indices loop.step loop.last 65536 loop.first 0 (progress loop.initial.m loop.initial.n loop.initial.u) loop.initial.list loop.initial.flags r l f))
 
 abbrev pub decreases-rounds-loop-indices : goal.decreases-rounds-loop-indices
-decreases-rounds-loop-indices l = dist (to_z w16 l.step) (to_z w16 l.last) (to_z w32 l.index)
+decreases-rounds-loop-indices l = dist l.step l.last l.index

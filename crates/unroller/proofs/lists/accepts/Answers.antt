@@ -8,11 +8,6 @@ use mathlib.Core.Path.{ap}
 use mathlib.Core.Bool.{not}
 use Rattle.unroller.proofs.lists.accepts.Goals as goal
 
-pub header-requires : goal.header-requires
-header-requires c = 
-    let all = c.requires in
-    record { header_words_in_bounds = all.0; state_len = all.1 }
-
 pub returns-then-not-header : goal.returns-then-not-header
 returns-then-not-header c =
     let a = c.args in
@@ -24,12 +19,6 @@ overflow_add-end c =
     let a = c.args in
     let s = a.list.now in
     omega (arith, header-small s _ (header_true s _ c.header.result (not-false c.header.result (ap not c.if-not-header.false)) c.header.ensures))
-
--- LOST GOAL slice-bounds-updates-at-end
-part-updates-at-end c =
-    let a = c.before.before.before.before.before.before.before.before.before.args in
-    let s = a.list.now in
-    omega (arith, header-small s _ (header_true s _ c.before.before.before.before.before.header.result (not-false c.before.before.before.before.before.header.result c.before.before.if1.false) c.before.before.before.before.before.header.ensures))
 
 pub returns : goal.returns
 returns c =

@@ -1,5 +1,4 @@
 use native.Mathlib.Omega.{arith}
-use Prim.Native.Nat.{◌-◌}
 use Rattle.unroller.proofs.CheckWhole.{short, accepted, refused, zero-array}
 use Rattle.unroller.proofs.lists.check_list.Goals as goal
 

@@ -1,4 +1,3 @@
-use Prim.Native.Nat.{◌-◌}
 use Rattle.unroller.proofs.CheckWords.{ended_past, ended_here}
 use Rattle.unroller.proofs.lists.ended.Goals as goal
 

@@ -1,4 +1,5 @@
 use Prim.Native.Nat.{◌+◌, ◌-◌}
+use Prim.Native.Nat.{◌+◌, ◌-◌}
 use mathlib.Core.Bool.{false}
 use native.Mathlib.Omega.{arith}
 use borrow.Author.Tests.{not-true, not-false}
@@ -9,7 +10,7 @@ use mathlib.Core.Bool.{not}
 use Rattle.unroller.proofs.lists.long_zeros_at.Goals as goal
 
 pub loop-k-init : goal.loop-k-init
-loop-k-init c = (omega arith, λ r z. zeros_same _ _ _ _ _ (omega arith) (omega arith) r z)
+loop-k-init c = (omega arith, λ r z. zeros_same _ c.args.from c.args.n (c.args.from + 0) (c.args.n - 0) (omega arith) (omega arith) r z)
 
 pub returns-then-not-eight_zeros : goal.returns-then-not-eight_zeros
 returns-then-not-eight_zeros c =

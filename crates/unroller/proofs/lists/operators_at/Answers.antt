@@ -1,3 +1,4 @@
+use Prim.Native.Nat.{◌+◌, ◌-◌}
 use native.Mathlib.Omega.{arith}
 use Prim.Native.Nat.{◌+◌, ◌-◌}
 use mathlib.Core.Bool.{true, false}
@@ -10,7 +11,7 @@ use mathlib.Core.Bool.{not}
 use Rattle.unroller.proofs.lists.operators_at.Goals as goal
 
 pub loop-k-init : goal.loop-k-init
-loop-k-init c = (omega arith, λ r z. operators_same _ _ _ _ _ (omega arith) (omega arith) r z)
+loop-k-init c = (omega arith, λ r z. operators_same c.args.list.now 1 c.args.n (1 + 0) (c.args.n - 0) (omega arith) (omega arith) r z)
 
 pub returns-then-not-is_operator : goal.returns-then-not-is_operator
 returns-then-not-is_operator c =

@@ -1,3 +1,5 @@
+use mathlib.Core.Bool.{not}
+use mathlib.Core.Path.{ap}
 use native.Mathlib.Omega.{arith}
 use mathlib.Core.Path.{sym, ◌∙◌}
 use Prim.Native.Nat.{◌-◌}
@@ -15,7 +17,7 @@ returns-then-left-eq0 c =
     let o = a.ops.now in
     let l = c.loop-at in
     let g = l.invariant.2 in
-    going_full s o a.state.now l.state l.at l.left l.count g (sym c.ended.ensures ∙ not-true c.ended.result c.loop-at-test.true) c.if-left-eq0.true
+    going_full s o a.state.now l.state l.at l.left l.count g (sym c.ended.ensures ∙ not-true c.ended.result (ap not c.loop-at-test.true)) c.if-left-eq0.true
 
 pub update_at-requires : goal.update_at-requires
 update_at-requires c = (c.loop-at.invariant.1, c.loop-at.invariant.0)
@@ -27,7 +29,7 @@ returns-in-Stop c =
     let o = a.ops.now in
     let l = c.loop-at in
     let g = l.invariant.2 in
-    going_stop s o a.state.now l.state l.at l.left l.count g _ c.update_at.result (sym c.ended.ensures ∙ not-true c.ended.result c.loop-at-test.true) c.in-Stop.is c.update_at.ensures
+    going_stop s o a.state.now l.state l.at l.left l.count g _ c.update_at.result (sym c.ended.ensures ∙ not-true c.ended.result (ap not c.loop-at-test.true)) c.in-Stop.is c.update_at.ensures
 
 pub loop-at-preserved : goal.loop-at-preserved
 loop-at-preserved c =
@@ -36,7 +38,7 @@ loop-at-preserved c =
     let o = a.ops.now in
     let l = c.loop-at in
     let g = l.invariant.2 in
-    (moved_nodes _ _ _ _ _ _ _ c.in-To.is c.update_at.ensures, moved_length _ _ _ _ _ _ _ c.in-To.is c.update_at.ensures l.invariant.1, going_step s o a.state.now l.state l.at l.left l.count g _ c.update_at.result c.in-To.next c.in-To.n (l.left - 1) (sym c.ended.ensures ∙ not-true c.ended.result c.loop-at-test.true) c.in-To.is c.update_at.ensures (omega arith))
+    (moved_nodes s l.at o l.state l.count c.update_at.new.state c.update_at.result c.in-To.is c.update_at.ensures, moved_length s l.at o l.state l.count c.update_at.new.state c.update_at.result c.in-To.is c.update_at.ensures l.invariant.1, going_step s o a.state.now l.state l.at l.left l.count g _ c.update_at.result c.in-To.next c.in-To.n (l.left - 1) (sym c.ended.ensures ∙ not-true c.ended.result (ap not c.loop-at-test.true)) c.in-To.is c.update_at.ensures (omega arith))
 
 pub returns : goal.returns
 returns c =
@@ -45,4 +47,4 @@ returns c =
     let o = a.ops.now in
     let l = c.loop-at in
     let g = l.invariant.2 in
-    going_end s o a.state.now l.state l.at l.left l.count g (sym c.ended.ensures ∙ not-false c.ended.result c.loop-at-test.false)
+    going_end s o a.state.now l.state l.at l.left l.count g (sym c.ended.ensures ∙ not-false c.ended.result (ap not c.loop-at-test.false))

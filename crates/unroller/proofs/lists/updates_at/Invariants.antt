@@ -1,5 +1,5 @@
 use mathlib.Core.Path.{◌≡◌}
-use Prim.Native.Nat.{◌-◌, ◌≤◌}
+use Prim.Native.Nat.{◌≤◌}
 use lib.ListN.{length}
 use Rattle.unroller.proofs.CheckUpdates.{Going}
 use Rattle.unroller.proofs.lists.updates_at.Given as goal

@@ -1,3 +1,4 @@
+use Prim.Native.Nat.{◌+◌, ◌-◌}
 use native.Mathlib.Omega.{arith}
 use Prim.Native.Nat.{◌+◌, ◌-◌}
 use mathlib.Core.Bool.{true, false}
@@ -5,7 +6,7 @@ use Rattle.unroller.proofs.CheckWords.{zeros_end, zeros-stop, zeros-step, zeros_
 use Rattle.unroller.proofs.lists.zeros_at.Goals as goal
 
 pub loop-k-init : goal.loop-k-init
-loop-k-init c = (omega arith, λ r z. zeros_same _ _ _ _ _ (omega arith) (omega arith) r z)
+loop-k-init c = (omega arith, λ r z. zeros_same _ c.args.from c.args.n (c.args.from + 0) (c.args.n - 0) (omega arith) (omega arith) r z)
 
 pub returns-then-list-from-ne0 : goal.returns-then-list-from-ne0
 returns-then-list-from-ne0 c =

@@ -63,7 +63,7 @@ pub round-returns : goal.round-returns
 round-returns t c = let a = c.args in let s = a.program.now in let t = tables_in a.tables.now in subst (λ (z : ℤ). TracesRound s a.body t a.left a.loops a.indices z a.array a.cell (held a.last.now a.values.now) c.items.result (held c.items.new.last c.items.new.values)) (to_z-of_z c.ranges.index) (round-runs s a.body t a.left a.loops a.indices a.array a.cell (to_z w16 (of_z w16 a.index)) (held a.last.now a.values.now) c.items.result (held c.items.new.last c.items.new.values) (subst (λ (l : List ℤ). TracesItems s a.body t a.left (a.loops + 1) l a.array a.cell (held a.last.now a.values.now) c.items.result (held c.items.new.last c.items.new.values)) c.inner_indices-inner.ensures c.items.ensures))
 
 pub rounds-overflow_cast-end : goal.rounds-overflow_cast-end
-rounds-overflow_cast-end t c = widens c.ranges.final-index w32 tt
+rounds-overflow_cast-end t c = widens c.ranges.final_index w32 tt
 
 pub rounds-overflow_cast-by : goal.rounds-overflow_cast-by
 rounds-overflow_cast-by t c = widens c.ranges.step w32 tt
@@ -72,31 +72,31 @@ pub rounds-overflow_cast-index : goal.rounds-overflow_cast-index
 rounds-overflow_cast-index t c = widens c.ranges.first w32 tt
 
 pub rounds-loop-after-init : goal.rounds-loop-after-init
-rounds-loop-after-init t c = let a = c.args in let s = a.program.now in let t = tables_in a.tables.now in let f = c.ranges in (65536, turn_first a.first a.final-index a.step f.first f.final-index f.step, λ r w v. subst (λ (z : ℤ). TracesRounds s a.body t a.left a.loops a.indices (to_z w16 (of_z w16 a.step)) (to_z w16 (of_z w16 a.final-index)) 65536 z 0 a.array a.cell (held a.last.now a.values.now) r w) (turn_start a.first a.final-index a.step f.first f.final-index f.step) v)
+rounds-loop-after-init t c = let a = c.args in let s = a.program.now in let t = tables_in a.tables.now in let f = c.ranges in (65536, turn_first a.first a.final_index a.step f.first f.final_index f.step, λ r w v. subst (λ (z : ℤ). TracesRounds s a.body t a.left a.loops a.indices (to_z w16 (of_z w16 a.step)) (to_z w16 (of_z w16 a.final_index)) 65536 z 0 a.array a.cell (held a.last.now a.values.now) r w) (turn_start a.first a.final_index a.step f.first f.final_index f.step) v)
 
 pub rounds-goes_on-requires : goal.rounds-goes_on-requires
 rounds-goes_on-requires t c = tt
 
 pub rounds-overflow_cast-index-in-loop-after : goal.rounds-overflow_cast-index-in-loop-after
-rounds-overflow_cast-index-in-loop-after t c = let a = c.args in let s = a.program.now in let t = tables_in a.tables.now in let f = c.ranges in let nz = c.requires.1 in let I = to_z w32 c.loop-after.index in let k = c.loop-after.invariant.0 in let p = c.loop-after.invariant.1 in let w = c.loop-after.invariant.2 in let g = turn_goes a.first a.final-index a.step f.first f.final-index f.step I c.goes_on.result true c.goes_on.ensures c.loop-after-test.true in turn-fits a.first a.final-index a.step f.first f.final-index f.step nz I k p g
+rounds-overflow_cast-index-in-loop-after t c = let a = c.args in let s = a.program.now in let t = tables_in a.tables.now in let f = c.ranges in let nz = c.requires.1 in let I = to_z w32 c.loop-after.index-bits in let k = c.loop-after.invariant.0 in let p = c.loop-after.invariant.1 in let w = c.loop-after.invariant.2 in let g = turn_goes a.first a.final_index a.step f.first f.final_index f.step I c.goes_on.result true c.goes_on.ensures c.loop-after-test.true in turn-fits a.first a.final_index a.step f.first f.final_index f.step nz I k p g
 
 pub rounds-overflow_add-index : goal.rounds-overflow_add-index
-rounds-overflow_add-index t c = let a = c.args in let s = a.program.now in let t = tables_in a.tables.now in let f = c.ranges in let nz = c.requires.1 in let I = to_z w32 c.loop-after.index in let k = c.loop-after.invariant.0 in let p = c.loop-after.invariant.1 in let w = c.loop-after.invariant.2 in let g = turn_goes a.first a.final-index a.step f.first f.final-index f.step I c.goes_on.result true c.goes_on.ensures c.loop-after-test.true in turn_adds a.first a.final-index a.step f.first f.final-index f.step nz I k p g
+rounds-overflow_add-index t c = let a = c.args in let s = a.program.now in let t = tables_in a.tables.now in let f = c.ranges in let nz = c.requires.1 in let I = to_z w32 c.loop-after.index-bits in let k = c.loop-after.invariant.0 in let p = c.loop-after.invariant.1 in let w = c.loop-after.invariant.2 in let g = turn_goes a.first a.final_index a.step f.first f.final_index f.step I c.goes_on.result true c.goes_on.ensures c.loop-after-test.true in turn_adds a.first a.final_index a.step f.first f.final_index f.step nz I k p g
 
 pub rounds-loop-after-smaller : goal.rounds-loop-after-smaller
-rounds-loop-after-smaller t c = let a = c.args in let s = a.program.now in let t = tables_in a.tables.now in let f = c.ranges in let nz = c.requires.1 in let I = to_z w32 c.loop-after.index in let k = c.loop-after.invariant.0 in let p = c.loop-after.invariant.1 in let w = c.loop-after.invariant.2 in let g = turn_goes a.first a.final-index a.step f.first f.final-index f.step I c.goes_on.result true c.goes_on.ensures c.loop-after-test.true in turn_less a.first a.final-index a.step f.first f.final-index f.step nz I k p g
+rounds-loop-after-smaller t c = let a = c.args in let s = a.program.now in let t = tables_in a.tables.now in let f = c.ranges in let nz = c.requires.1 in let I = to_z w32 c.loop-after.index-bits in let k = c.loop-after.invariant.0 in let p = c.loop-after.invariant.1 in let w = c.loop-after.invariant.2 in let g = turn_goes a.first a.final_index a.step f.first f.final_index f.step I c.goes_on.result true c.goes_on.ensures c.loop-after-test.true in turn_less a.first a.final_index a.step f.first f.final_index f.step nz I k p g
 
 pub rounds-loop-after-preserved : goal.rounds-loop-after-preserved
-rounds-loop-after-preserved t c = let a = c.args in let s = a.program.now in let t = tables_in a.tables.now in let f = c.ranges in let nz = c.requires.1 in let I = to_z w32 c.loop-after.index in let k = c.loop-after.invariant.0 in let p = c.loop-after.invariant.1 in let w = c.loop-after.invariant.2 in let g = turn_goes a.first a.final-index a.step f.first f.final-index f.step I c.goes_on.result true c.goes_on.ensures c.loop-after-test.true in (k - 1, turn-place a.first a.final-index a.step f.first f.final-index f.step nz I k p g, λ r v u. w r v (rounds-step s a.body t a.left a.loops a.indices a.array a.cell (to_z w16 (of_z w16 a.step)) (to_z w16 (of_z w16 a.final-index)) k I c.loop-after.after (held c.loop-after.last c.loop-after.values) (k - 1) (to_z w16 (of_z w16 I)) (to_z w32 (of_z w32 (I +ℤ to_z w32 (of_z w32 (to_z w16 (of_z w16 a.step)))))) (turn_more a.first a.final-index a.step f.first f.final-index f.step nz I k p g) c.round-after.result (held c.round-after.new.last c.round-after.new.values) c.round-after.ensures r v u))
+rounds-loop-after-preserved t c = let a = c.args in let s = a.program.now in let t = tables_in a.tables.now in let f = c.ranges in let nz = c.requires.1 in let I = to_z w32 c.loop-after.index-bits in let k = c.loop-after.invariant.0 in let p = c.loop-after.invariant.1 in let w = c.loop-after.invariant.2 in let g = turn_goes a.first a.final_index a.step f.first f.final_index f.step I c.goes_on.result true c.goes_on.ensures c.loop-after-test.true in (k - 1, turn-place a.first a.final_index a.step f.first f.final_index f.step nz I k p g, λ r v u. w r v (rounds-step s a.body t a.left a.loops a.indices a.array a.cell (to_z w16 (of_z w16 a.step)) (to_z w16 (of_z w16 a.final_index)) k I c.loop-after.after (held c.loop-after.last c.loop-after.values) (k - 1) (to_z w16 (of_z w16 I)) (to_z w32 (of_z w32 (I +ℤ to_z w32 (of_z w32 (to_z w16 (of_z w16 a.step)))))) (turn_more a.first a.final_index a.step f.first f.final_index f.step nz I k p g) c.round-after.result (held c.round-after.new.last c.round-after.new.values) c.round-after.ensures r v u))
 
 pub rounds-passed-requires : goal.rounds-passed-requires
 rounds-passed-requires t c = tt
 
 pub rounds-returns-then-after-eq0 : goal.rounds-returns-then-after-eq0
-rounds-returns-then-after-eq0 t c = let a = c.args in let s = a.program.now in let t = tables_in a.tables.now in let f = c.ranges in let nz = c.requires.1 in let I = to_z w32 c.loop-after.index in let k = c.loop-after.invariant.0 in let p = c.loop-after.invariant.1 in let w = c.loop-after.invariant.2 in let g = turn_goes a.first a.final-index a.step f.first f.final-index f.step I c.goes_on.result false c.goes_on.ensures c.loop-after-test.false in turn-back a.first a.final-index a.step f.first f.final-index f.step (λ z l i. TracesRounds s a.body t a.left a.loops a.indices z l 65536 i 0 a.array a.cell (held a.last.now a.values.now) c.passed.result (held c.loop-after.last c.loop-after.values)) (w _ _ (rounds_none s a.body t a.left a.loops a.indices a.array a.cell (to_z w16 (of_z w16 a.step)) (to_z w16 (of_z w16 a.final-index)) k I c.loop-after.after (held c.loop-after.last c.loop-after.values) c.passed.result g c.passed.ensures))
+rounds-returns-then-after-eq0 t c = let a = c.args in let s = a.program.now in let t = tables_in a.tables.now in let f = c.ranges in let nz = c.requires.1 in let I = to_z w32 c.loop-after.index-bits in let k = c.loop-after.invariant.0 in let p = c.loop-after.invariant.1 in let w = c.loop-after.invariant.2 in let g = turn_goes a.first a.final_index a.step f.first f.final_index f.step I c.goes_on.result false c.goes_on.ensures c.loop-after-test.false in turn-back a.first a.final_index a.step f.first f.final_index f.step (λ z l i. TracesRounds s a.body t a.left a.loops a.indices z l 65536 i 0 a.array a.cell (held a.last.now a.values.now) c.passed.result (held c.loop-after.last c.loop-after.values)) (w _ _ (rounds_none s a.body t a.left a.loops a.indices a.array a.cell (to_z w16 (of_z w16 a.step)) (to_z w16 (of_z w16 a.final_index)) k I c.loop-after.after (held c.loop-after.last c.loop-after.values) c.passed.result g c.passed.ensures))
 
 pub rounds-returns : goal.rounds-returns
-rounds-returns t c = let a = c.args in let s = a.program.now in let t = tables_in a.tables.now in let f = c.ranges in let nz = c.requires.1 in let I = to_z w32 c.loop-after.index in let k = c.loop-after.invariant.0 in let p = c.loop-after.invariant.1 in let w = c.loop-after.invariant.2 in let g = turn_goes a.first a.final-index a.step f.first f.final-index f.step I c.goes_on.result false c.goes_on.ensures c.loop-after-test.false in turn-back a.first a.final-index a.step f.first f.final-index f.step (λ z l i. TracesRounds s a.body t a.left a.loops a.indices z l 65536 i 0 a.array a.cell (held a.last.now a.values.now) c.loop-after.after (held c.loop-after.last c.loop-after.values)) (w _ _ (rounds-found s a.body t a.left a.loops a.indices a.array a.cell (to_z w16 (of_z w16 a.step)) (to_z w16 (of_z w16 a.final-index)) k I c.loop-after.after (held c.loop-after.last c.loop-after.values) g (let n = c.if-after-eq0.false in omega arith)))
+rounds-returns t c = let a = c.args in let s = a.program.now in let t = tables_in a.tables.now in let f = c.ranges in let nz = c.requires.1 in let I = to_z w32 c.loop-after.index-bits in let k = c.loop-after.invariant.0 in let p = c.loop-after.invariant.1 in let w = c.loop-after.invariant.2 in let g = turn_goes a.first a.final_index a.step f.first f.final_index f.step I c.goes_on.result false c.goes_on.ensures c.loop-after-test.false in turn-back a.first a.final_index a.step f.first f.final_index f.step (λ z l i. TracesRounds s a.body t a.left a.loops a.indices z l 65536 i 0 a.array a.cell (held a.last.now a.values.now) c.loop-after.after (held c.loop-after.last c.loop-after.values)) (w _ _ (rounds-found s a.body t a.left a.loops a.indices a.array a.cell (to_z w16 (of_z w16 a.step)) (to_z w16 (of_z w16 a.final_index)) k I c.loop-after.after (held c.loop-after.last c.loop-after.values) g (let n = c.if-after-eq0.false in omega arith)))
 
 pub run_guard-returns-then-left-eq0 : goal.run_guard-returns-then-left-eq0
 run_guard-returns-then-left-eq0 t c = let a = c.args in let s = a.program.now in let t = tables_in a.tables.now in nested_none s t a.left a.loops a.indices a.array a.cell a.at (held a.last.now a.values.now) _ _ 3 c.if-left-eq0.true

@@ -1,7 +1,5 @@
 use Prim.Native.Nat.{ℕ, ◌+◌, ◌-◌, ◌*◌}
 use lib.ListN.{length}
-use mir.Syntax.{w16, w32}
-use mir.Val.{to_z}
 use Rattle.reader.specs.Entries.{tables_in}
 use Rattle.unroller.specs.Origins.{Writer, held, TracesItems, TracesRounds}
 use Rattle.unroller.proofs.Indices.{Place, dist}
@@ -36,10 +34,10 @@ decreases-items-loop-place l = length l.program - l.place
 abbrev pub invariant-rounds-loop-after : goal.invariant-rounds-loop-after
 invariant-rounds-loop-after l =
     (k : ℕ)
-    × Place (to_z w16 l.first) (to_z w16 l.final) (to_z w16 l.step) (to_z w32 l.index) k
+    × Place l.first l.final_index l.step l.index k
     × ((r : ℕ) (w : Writer)
-    → TracesRounds l.program l.body (tables_in l.tables) l.left l.loops l.indices (to_z w16 l.step) (to_z w16 l.final) k (to_z w32 l.index) l.after l.array l.cell (held l.last l.values) r w
-    → TracesRounds l.program l.body (tables_in l.tables) l.left l.loops l.indices (to_z w16 l.step) (to_z w16 l.final) 65536 (to_z w16 l.first) 0 l.array l.cell (held l.initial.last l.initial.values) r w)
+    → TracesRounds l.program l.body (tables_in l.tables) l.left l.loops l.indices l.step l.final_index k l.index l.after l.array l.cell (held l.last l.values) r w
+    → TracesRounds l.program l.body (tables_in l.tables) l.left l.loops l.indices l.step l.final_index 65536 l.first 0 l.array l.cell (held l.initial.last l.initial.values) r w)
 
 abbrev pub decreases-rounds-loop-after : goal.decreases-rounds-loop-after
-decreases-rounds-loop-after l = dist (to_z w16 l.step) (to_z w16 l.final) (to_z w32 l.index)
+decreases-rounds-loop-after l = dist l.step l.final_index l.index

@@ -18,6 +18,6 @@ pub shape_of-list-in-Updates : goal.shape_of-list-in-Updates
 shape_of-list-in-Updates c = c.clear.auto.memory ∙ c.unroll.auto.list
 
 pub returns-in-Updates : goal.returns-in-Updates
-returns-in-Updates c = 
+returns-in-Updates c =
     let all = let a = c.args in origin-updates a.program.now a.array a.cell a.list.now c.unroll.result c.unroll.new.list c.unroll.ensures.reply c.unroll.ensures.leaves _ c.in-Updates.is c.unroll.auto.list c.clear.new.memory c.clear.ensures c.last_writer.result c.last_writer.ensures in
     record { reply = all.0; leaves = all.1 }

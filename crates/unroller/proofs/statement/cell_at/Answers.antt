@@ -1,5 +1,4 @@
 use native.Mathlib.Omega.{arith}
-use Prim.Native.Nat.{◌-◌}
 use Rattle.unroller.proofs.Cells.{loop_no, loop_is, loop_end, below_is, grows_to, cell-fits}
 use Rattle.model.specs.Tables.{array_at}
 use Rattle.reader.proofs.Flattened.{dimensions-three}

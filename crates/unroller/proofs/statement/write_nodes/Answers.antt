@@ -1,6 +1,5 @@
 use native.Mathlib.Omega.{arith}
 use mathlib.Core.Path.{refl, ◌∙◌}
-use Prim.Native.Nat.{◌-◌}
 use Rattle.unroller.proofs.Prefix.{rest_end, rest_whole, rest_stop, rest_step, roomy_is}
 use Rattle.unroller.proofs.statement.write_nodes.Goals as goal
 
