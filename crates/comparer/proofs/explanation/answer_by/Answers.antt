@@ -1,0 +1,14 @@
+use mathlib.Core.Path.{refl}
+use Rattle.comparer.proofs.explanation.answer_by.Goals as goal
+
+pub returns-in-Written : goal.returns-in-Written
+returns-in-Written c = rw c.in-Written.is refl
+
+pub returns-in-Starting : goal.returns-in-Starting
+returns-in-Starting c = rw c.in-Starting.is refl
+
+pub returns-in-Refused : goal.returns-in-Refused
+returns-in-Refused c = rw c.in-Refused.is refl
+
+pub returns-in-Short : goal.returns-in-Short
+returns-in-Short c = rw c.in-Short.is refl

@@ -1,0 +1,30 @@
+use mathlib.Core.Path.{◌≡◌}
+use mathlib.Core.Bool.{true, false}
+use mathlib.Core.Path.{sym, ◌∙◌}
+use lib.ListN.{length}
+use Rattle.comparer.specs.Entry.{enough}
+use Rattle.comparer.proofs.ListEntries.{work_kept, work_cleared}
+use Rattle.comparer.proofs.ProgramEntries.{entry_short, entry_long}
+use Rattle.comparer.proofs.programs.programs_reply.Goals as goal
+
+pub returns-then-not-long_enough : goal.returns-then-not-long_enough
+returns-then-not-long_enough c =
+    let s = c.args in
+    let long = enough (length s.left_list.now) (length s.right_list.now) (length s.cells.now) (length s.terms.now) in
+    let e : long ≡ false = (sym c.long_enough.ensures ∙ c.if-not-long_enough.true) in
+    (entry_short _ _ e, work_kept _ _ e, work_kept _ _ e, work_kept _ _ e, work_kept _ _ e)
+
+pub unrolled_reply-reply-requires : goal.unrolled_reply-reply-requires
+unrolled_reply-reply-requires c = (sym c.long_enough.ensures ∙ c.if-not-long_enough.false)
+
+pub clear_used-requires : goal.clear_used-requires
+clear_used-requires c = c.unrolled_reply-reply.ensures.ended
+
+pub returns : goal.returns
+returns c =
+    let s = c.args in
+    let long = enough (length s.left_list.now) (length s.right_list.now) (length s.cells.now) (length s.terms.now) in
+    let u = c.unrolled_reply-reply in
+    let d = c.clear_used in
+    let e : long ≡ true = (sym c.long_enough.ensures ∙ c.if-not-long_enough.false) in
+    (entry_long long _ _ e u.ensures.0, work_cleared long s.left_list.now u.new.1.1.1.0 d.new.0 e u.auto.1.1.1.0 d.ensures.0, work_cleared long s.right_list.now u.new.1.1.1.1.0 d.new.1.0 e u.auto.1.1.1.1.0 d.ensures.1.0, work_cleared long s.cells.now u.new.1.1.1.1.1.0 d.new.1.1.0 e u.auto.1.1.1.1.1.0 d.ensures.1.1.0, work_cleared long s.terms.now u.new.1.1.1.1.1.1.0 d.new.1.1.1.0 e u.auto.1.1.1.1.1.1.0 d.ensures.1.1.1)
