@@ -9,7 +9,7 @@ use lib.Dec.{leb, eqb}
 use borrow.Author.Tests.{le-leb, eqb-true}
 use Rattle.model.specs.Test.{within, every}
 use Rattle.model.specs.Tables.{Array, Tables, cells, local, operator_in}
-use Rattle.reader.specs.Field.{Bytes, Outcome, got, Reader, byte, field, u16, little_endian, times}
+use Rattle.reader.specs.Field.{Bytes, got, Reader, byte, field, u16, little_endian, times}
 use Rattle.reader.specs.Grammar.{mark, head, operator_of, operators, extent, array, arrays, tables}
 use Rattle.reader.proofs.Bytes.{u24_is}
 use Rattle.reader.proofs.Binds.{read_by, asked_by, got_so}

@@ -1,5 +1,5 @@
 -- What the writer promises of its definitions, each as a named type. That its code meets them is the contract of `write_file`.
-use Rattle.std.specs.Prelude.{ℕ, ◌≤◌, ◌<◌, ◌≡◌, List, ◌∷◌, ◌++◌, Bool, true, false, not, length, get_or, take, drop}
+use Rattle.std.specs.Prelude.{ℕ, ◌≤◌, ◌≡◌, List, ◌∷◌, ◌++◌, Bool, true, false, not, length, take, drop}
 use Rattle.std.proofs.Math.Option.{some}
 use Rattle.model.specs.Test.{if◌then◌else◌, every}
 use Rattle.model.specs.Tables.{swaps}

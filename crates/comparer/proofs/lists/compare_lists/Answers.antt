@@ -17,4 +17,4 @@ returns c =
     let s = c.args in
     let long = enough (length s.left.now) (length s.right.now) (length s.cells.now) (length s.terms.now) in
     let d = c.checked-reply in
-    (words_long s.mask s.left.now s.right.now (length s.cells.now) (length s.terms.now) _ (sym c.long_enough.ensures ∙ c.if-not-long_enough.false) d.ensures, work_cleared long s.cells.now d.new.1.1.1.0 c.clear.new.memory (sym c.long_enough.ensures ∙ c.if-not-long_enough.false) d.auto.1.1.1.0 c.clear.ensures, work_cleared long s.terms.now d.new.1.1.1.1.0 c.clear-2.new.memory (sym c.long_enough.ensures ∙ c.if-not-long_enough.false) d.auto.1.1.1.1.0 c.clear-2.ensures)
+    (words_long s.mask s.left.now s.right.now (length s.cells.now) (length s.terms.now) _ (sym c.long_enough.ensures ∙ c.if-not-long_enough.false) d.ensures, work_cleared long s.cells.now d.new.cells c.clear.new.memory (sym c.long_enough.ensures ∙ c.if-not-long_enough.false) d.auto.cells c.clear.ensures, work_cleared long s.terms.now d.new.terms c.clear-2.new.memory (sym c.long_enough.ensures ∙ c.if-not-long_enough.false) d.auto.terms c.clear-2.ensures)

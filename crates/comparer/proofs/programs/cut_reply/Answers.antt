@@ -20,4 +20,4 @@ returns c =
     let long = enough (length s.left_list.now) (length s.right_list.now) (length s.cells.now) (length s.terms.now) in
     let f = c.unframed in
     let e : long ≡ true = (sym c.long_enough.ensures ∙ c.if-not-long_enough.false) in
-    (entry_long long _ _ e (ap reply_says f.ensures.0), work_cleared long s.left_list.now s.left_list.now _ e refl f.ensures.1.0, work_cleared long s.right_list.now s.right_list.now _ e refl f.ensures.1.1, work_cleared long s.cells.now s.cells.now _ e refl c.clear.ensures, work_cleared long s.terms.now s.terms.now _ e refl c.clear-2.ensures)
+    (entry_long long _ _ e (ap reply_says f.ensures.value), work_cleared long s.left_list.now s.left_list.now _ e refl f.ensures.left_list_after, work_cleared long s.right_list.now s.right_list.now _ e refl f.ensures.right_list_after, work_cleared long s.cells.now s.cells.now _ e refl c.clear.ensures, work_cleared long s.terms.now s.terms.now _ e refl c.clear-2.ensures)

@@ -27,4 +27,4 @@ returns c =
     let f = c.framed_reply-reply in
     let d = c.clear_used in
     let e : long ≡ true = (sym c.long_enough.ensures ∙ c.if-not-long_enough.false) in
-    (entry_long long _ _ e f.ensures.0, work_cleared long s.left_list.now f.new.1.1.0 d.new.0 e f.auto.1.1.0 d.ensures.0, work_cleared long s.right_list.now f.new.1.1.1.0 d.new.1.0 e f.auto.1.1.1.0 d.ensures.1.0, work_cleared long s.cells.now f.new.1.1.1.1.0 d.new.1.1.0 e f.auto.1.1.1.1.0 d.ensures.1.1.0, work_cleared long s.terms.now f.new.1.1.1.1.1.0 d.new.1.1.1.0 e f.auto.1.1.1.1.1.0 d.ensures.1.1.1)
+    (entry_long long _ _ e f.ensures.result_value, work_cleared long s.left_list.now f.new.left_list d.new.left_list e f.auto.left_list d.ensures.left_list_after, work_cleared long s.right_list.now f.new.right_list d.new.right_list e f.auto.right_list d.ensures.right_list_after, work_cleared long s.cells.now f.new.cells d.new.cells e f.auto.cells d.ensures.cells_after, work_cleared long s.terms.now f.new.terms d.new.terms e f.auto.terms d.ensures.terms_after)

@@ -27,4 +27,4 @@ returns c =
     let u = c.unrolled_reply-reply in
     let d = c.clear_used in
     let e : long ≡ true = (sym c.long_enough.ensures ∙ c.if-not-long_enough.false) in
-    (entry_long long _ _ e u.ensures.0, work_cleared long s.left_list.now u.new.1.1.1.0 d.new.0 e u.auto.1.1.1.0 d.ensures.0, work_cleared long s.right_list.now u.new.1.1.1.1.0 d.new.1.0 e u.auto.1.1.1.1.0 d.ensures.1.0, work_cleared long s.cells.now u.new.1.1.1.1.1.0 d.new.1.1.0 e u.auto.1.1.1.1.1.0 d.ensures.1.1.0, work_cleared long s.terms.now u.new.1.1.1.1.1.1.0 d.new.1.1.1.0 e u.auto.1.1.1.1.1.1.0 d.ensures.1.1.1)
+    (entry_long long _ _ e u.ensures.result_value, work_cleared long s.left_list.now u.new.left_list d.new.left_list e u.auto.left_list d.ensures.left_list_after, work_cleared long s.right_list.now u.new.right_list d.new.right_list e u.auto.right_list d.ensures.right_list_after, work_cleared long s.cells.now u.new.cells d.new.cells e u.auto.cells d.ensures.cells_after, work_cleared long s.terms.now u.new.terms d.new.terms e u.auto.terms d.ensures.terms_after)

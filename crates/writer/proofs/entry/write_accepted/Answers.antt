@@ -54,7 +54,7 @@ returns-then-total-gt-MOST_BYTES c =
     let m = sized_is w q.what q.holds c.measure.result n b c.measure.ensures c.in-Sized.is in
     let h = c.head_size.result in
     let head = c.head_size.ensures in
-    long-writes w q.what q.holds n m.0 h b head.0 m.1 c.args.out.now (h + b + 1) refl (omega (arith, c.if-total-gt-MOST_BYTES.true))
+    long-writes w q.what q.holds n m.0 h b head.says m.1 c.args.out.now (h + b + 1) refl (omega (arith, c.if-total-gt-MOST_BYTES.true))
 
 pub returns-then-out-total : goal.returns-then-out-total
 returns-then-out-total c =
@@ -65,7 +65,7 @@ returns-then-out-total c =
     let m = sized_is w q.what q.holds c.measure.result n b c.measure.ensures c.in-Sized.is in
     let h = c.head_size.result in
     let head = c.head_size.ensures in
-    room-writes w q.what q.holds n m.0 h b head.0 m.1 c.args.out.now (h + b + 1) refl (omega (arith, c.if-out-total.true))
+    room-writes w q.what q.holds n m.0 h b head.says m.1 c.args.out.now (h + b + 1) refl (omega (arith, c.if-out-total.true))
 
 pub write_all-requires : goal.write_all-requires
 write_all-requires c =
@@ -76,7 +76,7 @@ write_all-requires c =
     let m = sized_is w q.what q.holds c.measure.result n b c.measure.ensures c.in-Sized.is in
     let h = c.head_size.result in
     let head = c.head_size.ensures in
-    let t = total_is w q.what q.holds n m.0 h b head.0 m.1 in
+    let t = total_is w q.what q.holds n m.0 h b head.says m.1 in
     (q.holds.head, all_known w q.what q.holds n m.0, omega (arith, c.if-out-total.false))
 
 pub returns-in-Wide : goal.returns-in-Wide
@@ -97,4 +97,4 @@ returns-else-out-total c =
     let m = sized_is w q.what q.holds c.measure.result n b c.measure.ensures c.in-Sized.is in
     let h = c.head_size.result in
     let head = c.head_size.ensures in
-    file-writes w q.what q.holds n m.0 h b head.0 m.1 c.args.out.now c.write_all.new.out (h + b + 1) refl (omega (arith, c.if-total-gt-MOST_BYTES.false)) (omega (arith, c.if-out-total.false)) c.write_all.ensures
+    file-writes w q.what q.holds n m.0 h b head.says m.1 c.args.out.now c.write_all.new.out (h + b + 1) refl (omega (arith, c.if-total-gt-MOST_BYTES.false)) (omega (arith, c.if-out-total.false)) c.write_all.ensures
