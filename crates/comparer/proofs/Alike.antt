@@ -2,7 +2,7 @@
 use Prim.Native.Nat.{ℕ}
 use mathlib.Core.Path.{◌≡◌, refl, sym, ap, ap₂, ◌∙◌}
 use mathlib.Core.List.{List, [], ◌∷◌, ◌++◌}
-use mathlib.Core.Bool.{Bool, true, false, ◌&&◌, ◌||◌, cond, true≢false, and-eq-true_iff, or_assoc, or-false}
+use mathlib.Core.Bool.{Bool, true, false, ◌||◌, cond, true≢false, and-eq-true_iff, or_assoc, or-false}
 use Rattle.model.specs.Tables.{Array, array_at, starts}
 use Rattle.model.specs.Update.{Tree, Trees, Update, writes, written}
 use Rattle.model.specs.Update.Tree.{cell, number, constant, operator}

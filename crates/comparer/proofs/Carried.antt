@@ -2,7 +2,7 @@
 use Prim.Native.Nat.{ℕ, ◌+◌}
 use mathlib.Core.Path.{◌≡◌, refl, sym, ap, ◌∙◌, subst}
 use mathlib.Core.Bool.{Bool, true, false, true≢false}
-use mathlib.Core.List.{List, ◌∷◌, map, Memᴰ}
+use mathlib.Core.List.{List, [], ◌∷◌, map, Memᴰ}
 use lib.ListN.{length, take, drop}
 use lib.Dec.{leb}
 use Rattle.model.specs.Update.{Listed}
@@ -77,6 +77,7 @@ equal-answered long s r n e f =
     same_values (left_in s) (right_in s) (reply_says r) n (input-answered long s r e (ap is_refused g)) g
 
 row_of : (f g : Row → List ℕ) (xs : List Row) → map f xs ≡ map g xs → (x : Row) → Memᴰ x xs → f x ≡ g x
+row_of f g [] e x p = elim p [ ]
 row_of f g (y ∷ ys) e x (Memᴰ.head p) = let q : f y ≡ g y = cc in subst (λ (z : Row). f z ≡ g z) (sym p) q
 row_of f g (y ∷ ys) e x (Memᴰ.tail m) = let q : map f ys ≡ map g ys = cc in row_of f g ys q x m
 

@@ -1,15 +1,15 @@
 -- Demand 3 is about something: a list, a new order of it, and orders that would change the reply.
-use Prim.Native.Nat.{ℕ, zero, suc, ◌+◌, ◌≤◌, ◌<◌}
+use Prim.Native.Nat.{ℕ, zero, suc, ◌<◌}
 use native.Mathlib.Omega.{arith}
 use mathlib.Core.Path.{◌≡◌, refl}
 use mathlib.Core.List.{List, [], ◌∷◌}
-use mathlib.Core.Bool.{Bool, true, false, false≢true}
+use mathlib.Core.Bool.{true, false, false≢true}
 use lib.ListN.{length, get_or}
-use Rattle.model.specs.Tables.{Array, Tables, swaps, operator_in, arity_of, swaps_at}
-use Rattle.model.specs.Update.{Tree, Trees, Update, Listed, size, sizes, reads_cell, reads_cells}
+use Rattle.model.specs.Tables.{swaps, operator_in, arity_of, swaps_at}
+use Rattle.model.specs.Update.{Tree, Update, Listed, size, sizes, reads_cell, reads_cells}
 use Rattle.model.specs.Update.Tree.{cell, operator}
 use Rattle.model.specs.Update.Trees.{nil, cons}
-use Rattle.model.specs.Reply.{Reply, equal, differs}
+use Rattle.model.specs.Reply.{equal, differs}
 use Rattle.terms.specs.Term.{turned, alike, alikes, parts, parts_of, term_count}
 use Rattle.unroller.specs.Run.{readable, readables}
 use Rattle.unroller.specs.Allowed.{allowed, allowed_tables, allowed_update, may_write, proper, propers}

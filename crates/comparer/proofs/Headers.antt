@@ -4,22 +4,22 @@ use native.Mathlib.Omega.{arith}
 use mathlib.Core.Path.{◌≡◌, refl, sym, ap, ◌∙◌, subst}
 use mathlib.Core.Logic.{◌⊎◌, inl, inr, ⊎_elim}
 use mathlib.Core.List.{List, [], ◌∷◌}
-use mathlib.Core.Bool.{Bool, true, false, ◌&&◌, ◌||◌, not, cond, false≢true, and-eq-true_iff}
-use lib.ListN.{length, get_or, take, length-take, get_or-eq_default}
+use mathlib.Core.Bool.{Bool, true, false, ◌||◌, not, and-eq-true_iff}
+use lib.ListN.{length, get_or, take}
 use lib.Seq.{get_or-take, ext_get_or, length-take-le}
-use lib.Dec.{eqb, leb}
+use lib.Dec.{eqb}
 use borrow.Author.Count.{below_more}
 use borrow.Author.Tests.{eq-eqb, ne_eqb}
 use Rattle.model.specs.Test.{every, within}
 use Rattle.model.specs.Tables as model
 use Rattle.model.specs.Tables.{Array, array_at, local}
 use Rattle.model.specs.Reply.{Reply, refused, both}
-use Rattle.unroller.specs.Allowed.{locals_last, allowed_array, allowed_tables}
-use Rattle.unroller.specs.Stands.{ArrayAt, HeaderAt}
+use Rattle.unroller.specs.Allowed.{locals_last, allowed_array}
+use Rattle.unroller.specs.Stands.{ArrayAt}
 use Rattle.unroller.specs.State.{nowhere}
 use Rattle.unroller.proofs.Parts as parts
 use Rattle.comparer.specs.Match.{same_numbers, same_array, non_local, same_table}
-use Rattle.comparer.specs.Headers.{Heads, Counted, Leads, FirstApart, Ends, answered, ArraysTell, OperatorsTell, tables_reply, told_reply, TablesTell}
+use Rattle.comparer.specs.Headers.{Heads, Counted, Leads, FirstApart, Ends, answered, ArraysTell, OperatorsTell, TablesTell}
 use Rattle.comparer.specs.declared.tables.Table.{Table}
 use Rattle.comparer.specs.declared.tables.Table.TheVariants as table
 use Rattle.comparer.specs.declared.tables.Tables.TheVariants as tables

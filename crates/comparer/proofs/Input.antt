@@ -1,5 +1,5 @@
 -- Framed input: what a frame means, demand 2 for it, and that a cut behind byte 32,771 changes no reply.
-use Prim.Native.Nat.{ℕ, ◌+◌, ◌-◌, ◌*◌, ◌/◌, ◌%◌, ◌≤◌, ◌<◌}
+use Prim.Native.Nat.{ℕ, ◌+◌, ◌*◌, ◌/◌, ◌%◌, ◌≤◌, ◌<◌}
 use native.Mathlib.Omega.{arith}
 use mathlib.Core.Path.{◌≡◌, refl, sym, ap, ◌∙◌, subst}
 use mathlib.Core.List.{List, [], ◌∷◌, ◌++◌}
@@ -10,8 +10,8 @@ use lib.Dec.{leb}
 use borrow.Author.Tests.{leb-true, leb-false, le-leb, lt-leb}
 use Rattle.model.specs.Test.{if◌then◌else◌}
 use Rattle.model.specs.Update.{Listed}
-use Rattle.model.specs.Reply.{Reply, equal, refused, left, right, input, is_refused}
-use Rattle.reader.specs.Field.{little_endian, no}
+use Rattle.model.specs.Reply.{Reply, equal, refused, left, input, is_refused}
+use Rattle.reader.specs.Field.{little_endian}
 use Rattle.reader.specs.Grammar.{read_program}
 use Rattle.unroller.specs.Run.{ok, stop}
 use Rattle.unroller.specs.Unroll.{unrolled}

@@ -14,7 +14,7 @@ use Rattle.terms.proofs.Members.{parts_append}
 use Rattle.terms.proofs.Count.{among_append, same_count}
 use Rattle.unroller.specs.Allowed.{allowed, allowed_tables, allowed_update}
 use Rattle.comparer.specs.Meaning.{Meaning, Content, after, free, values}
-use Rattle.comparer.specs.Match.{swapping, compared_size, first_difference, matched, same_table, same_array, non_local, operators_reply, lists_reply}
+use Rattle.comparer.specs.Match.{swapping, compared_size, first_difference, matched, same_table, same_array, non_local, lists_reply}
 use Rattle.comparer.specs.Comparing.{Final, final, agree}
 use Rattle.comparer.specs.Order.{in_order, NewOrder, reorder}
 use Rattle.comparer.proofs.Reorder.{Reordered, after_reordered, written_reordered, total_reordered, every_reordered, length_reordered, read_all_reordered, occurs_reordered}

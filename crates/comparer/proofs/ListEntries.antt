@@ -23,7 +23,7 @@ use Rattle.unroller.proofs.Inverse.{layout-decode}
 use Rattle.comparer.specs.Match.{same_array, non_local, same_table, matched, lists_reply}
 use Rattle.comparer.specs.Matching.{Matches}
 use Rattle.comparer.specs.Answers.{reply_says}
-use Rattle.comparer.specs.Asked.{Held, Room, Asked}
+use Rattle.comparer.specs.Asked.{Held, Asked}
 use Rattle.comparer.specs.Entry.{enough, decoded_reply, words_reply}
 use Rattle.comparer.specs.Headers.{Heads, Counted, tables_reply, TablesTell}
 use Rattle.comparer.specs.declared.reply.Reply.{Reply}

@@ -1,7 +1,7 @@
 -- Which numbers a reply can have: those of a program for either side, 22 to 24 of a pair, 1 of framed input and of many pairs.
 use Prim.Native.Nat.{ℕ, zero, suc, ◌≤◌}
 use native.Mathlib.Omega.{arith}
-use mathlib.Core.Path.{◌≡◌, refl}
+use mathlib.Core.Path.{refl}
 use mathlib.Core.List.{List, [], ◌∷◌}
 use mathlib.Core.Bool.{Bool, true, false, cond}
 use lib.ListN.{length, drop}
@@ -16,7 +16,7 @@ use Rattle.unroller.specs.Run.{Ran, ok, stop}
 use Rattle.unroller.specs.Unroll.{unrolled}
 use Rattle.unroller.proofs.Questions.{ProgramNumbered, unrolled_numbered}
 use Rattle.comparer.specs.Match.{compared, first_cell, first_difference, agree_at, swapping, written_terms, compared_size, same_table, same_array, non_local, matched, operators_reply, lists_reply}
-use Rattle.comparer.specs.Entry.{side_reply, programs_by, framed_reply, input_by}
+use Rattle.comparer.specs.Entry.{side_reply, programs_by, input_by}
 use Rattle.comparer.specs.Claims.{Numbered, ProgramNumbers, InputNumbers}
 
 -- ---- two lists: 22 to 24

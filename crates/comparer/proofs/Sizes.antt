@@ -11,7 +11,7 @@ use lib.Seq.{get_or-set_same, get_or-set_other}
 use lib.Dec.{eqb, ltb, leb}
 use borrow.Author.Tests.{eq-eqb, ne_eqb, le-leb, lt-leb, leb-true, leb-false}
 use Rattle.model.specs.Test.{within, every}
-use Rattle.model.specs.Tables.{Array, Tables, cells, array_at, starts}
+use Rattle.model.specs.Tables.{Tables, cells, array_at, starts}
 use Rattle.unroller.specs.Allowed.{allowed_array}
 use Rattle.unroller.specs.Stands.{bases_of, HeaderAt}
 use Rattle.unroller.proofs.Parts.{both, within_low, within-high, every_at, array_parts, TablesParts}

@@ -20,7 +20,7 @@ use Rattle.terms.proofs.Laws.{empty}
 use Rattle.terms.proofs.Number.{too_many, count_right}
 use Rattle.unroller.specs.Allowed.{allowed}
 use Rattle.unroller.specs.Stands.{bases_of, HeaderAt, Stands}
-use Rattle.unroller.proofs.Parts.{both, within-high, TablesParts, list-parts, tables-whole}
+use Rattle.unroller.proofs.Parts.{within-high, TablesParts, list-parts, tables-whole}
 use Rattle.unroller.proofs.Stands.{bases-length, bases-step, proper-inside}
 use Rattle.comparer.specs.Meaning.{Content, after, free, values}
 use Rattle.comparer.specs.Match.{swapping, given, compared_size, first_difference, agree_at, written_terms, matched}

@@ -2,7 +2,7 @@
 use Prim.Native.Nat.{ℕ, zero, suc, ◌+◌, ◌-◌, ◌*◌, ◌/◌, ◌%◌, ◌≤◌, ◌<◌, min}
 use native.Mathlib.Omega.{arith}
 use native.Mathlib.Numerals.{add-one}
-use mathlib.Core.Path.{◌≡◌, refl, sym, ap, ◌∙◌, subst}
+use mathlib.Core.Path.{◌≡◌, refl, sym, ◌∙◌, subst}
 use mathlib.Core.List.{List, [], ◌∷◌, ◌++◌, append-nil, append_assoc}
 use mathlib.Core.Bool.{Bool, true, false, false≢true}
 use lib.ListN.{length, get_or, take, set, replicate, length-append}
@@ -13,14 +13,14 @@ use lib.Signed.{lt_z}
 use borrow.Author.Tests.{lt-ltb, le-ltb, ltb-true}
 use mir.Syntax.{w16}
 use mir.Val.{SFits}
-use Rattle.model.specs.Reply.{Reply, equal, differs, refused, Side, left, right, both, input}
+use Rattle.model.specs.Reply.{equal, differs, refused, Side, left, right, both, input}
 use Rattle.unroller.specs.Layout.{padded}
 use Rattle.comparer.specs.Line.{codes, digits, decimal, side_text, spaced, line_of}
 use Rattle.comparer.specs.Batch.{totals_line}
 use Rattle.comparer.specs.Explain.{written, starting}
 use Rattle.comparer.specs.ExplainLine.{signed, spaced_first, answer_line, explanation_line}
 use Rattle.comparer.specs.ExplainAnswers.{answer_says, explanation_says}
-use Rattle.comparer.specs.Writing.{Holds, Adds, tens, AddsNumber, Begins}
+use Rattle.comparer.specs.Writing.{Holds, Adds, AddsNumber, Begins}
 use Rattle.comparer.specs.declared.batch.Totals.{Totals}
 use Rattle.comparer.specs.declared.line.Line.{Line}
 use Rattle.comparer.specs.declared.explanation.Answer.{Answer}

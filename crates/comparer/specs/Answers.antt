@@ -1,5 +1,4 @@
 -- What the code's replies say, case by case.
-use Rattle.std.specs.Prelude.{ℕ}
 use Rattle.model.specs.Reply as model
 use Rattle.comparer.specs.declared.reply.Side.{Side}
 use Rattle.comparer.specs.declared.reply.Side.TheVariants as side

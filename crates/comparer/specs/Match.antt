@@ -1,11 +1,11 @@
 -- The match of two update lists (docs/FORMAT.md, "The match"), with questions 22 to 24.
 use Rattle.std.specs.Prelude.{ℕ, zero, suc, ◌+◌, ◌*◌, ◌/◌, ◌%◌, ◌^◌, List, [], ◌∷◌, ◌++◌, Bool, true, false, ◌&&◌, ◌||◌, cond, leb, eqb}
-use Rattle.model.specs.Tables.{Array, Tables, cells, array_at, local, starts, swaps_at}
-use Rattle.model.specs.Update.{Tree, Update, Listed, written}
+use Rattle.model.specs.Tables.{Array, cells, array_at, local, starts, swaps_at}
+use Rattle.model.specs.Update.{Tree, Listed, written}
 use Rattle.model.specs.Update.Tree.{cell}
 use Rattle.model.specs.Reply.{Reply, equal, differs, refused, both}
 use Rattle.terms.specs.Term.{alike, term_count}
-use Rattle.comparer.specs.Meaning.{Content, after, free, values}
+use Rattle.comparer.specs.Meaning.{after, free, values}
 
 abbrev pub bit : ℕ → ℕ → Bool
 bit mask k = eqb (mask / (2 ^ k) % 2) 1

@@ -1,7 +1,6 @@
 use borrow.Author.Tests.{not-true, not-false, leb-true}
 use native.Mathlib.Omega.{arith}
 use mathlib.Core.Path.{sym, ◌∙◌}
-use Prim.Native.Nat.{◌-◌}
 use Rattle.comparer.proofs.Firsts.{cells_outside_left, cells_outside_right, cell_end, cell-stop, cell-step}
 use mathlib.Core.Path.{ap}
 use mathlib.Core.Bool.{not}
@@ -14,7 +13,7 @@ pub returns-then-not-fits-2 : goal.returns-then-not-fits-2
 returns-then-not-fits-2 c = cells_outside_right _ _ _ _ _ _ _ _ (sym (not-true c.fits-2.result (ap not c.if-not-fits-2.true)) ∙ c.fits-2.ensures) _
 
 pub loop-c-init : goal.loop-c-init
-loop-c-init c = (omega arith, leb-true _ _ (sym c.fits-2.ensures ∙ not-false c.fits-2.result (ap not c.if-not-fits.false)), leb-true _ _ (sym c.fits-2.ensures ∙ not-false c.fits-2.result (ap not c.if-not-fits-2.false)), λ d F. F)
+loop-c-init c = (omega arith, leb-true _ _ (sym c.fits.ensures ∙ not-false c.fits.result (ap not c.if-not-fits.false)), leb-true _ _ (sym c.fits-2.ensures ∙ not-false c.fits-2.result (ap not c.if-not-fits-2.false)), λ d F. F)
 
 pub returns-then-not-same_value : goal.returns-then-not-same_value
 returns-then-not-same_value c = c.loop-c.invariant.3 _ (cell-stop _ _ _ _ _ _ _ _ _ c.loop-c-test.true c.same_value.result c.same_value.ensures (not-true c.same_value.result (ap not c.if-not-same_value.true)))

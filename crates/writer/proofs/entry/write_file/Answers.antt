@@ -11,7 +11,6 @@ write_accepted-requires c =
 
 pub returns-in-Short : goal.returns-in-Short
 returns-in-Short c =
-    
     let all = let a = c.args in
     let w = a.list.now in
     let out = a.out.now in
@@ -20,7 +19,6 @@ returns-in-Short c =
 
 pub returns-in-Refused : goal.returns-in-Refused
 returns-in-Refused c =
-    
     let all = let a = c.args in
     let w = a.list.now in
     let out = a.out.now in
@@ -32,7 +30,6 @@ shape_of-out c = c.write_accepted.auto.out
 
 pub returns-in-Accepted : goal.returns-in-Accepted
 returns-in-Accepted c =
-    
     let all = let a = c.args in
     let w = a.list.now in
     let out = a.out.now in

@@ -64,7 +64,6 @@ loop-left-preserved c =
 
 pub returns : goal.returns
 returns c =
-    
     let all = let a = c.args in
     let l = c.loop-left in
     adds_end a.list.now a.at a.n l.from l.left l.size l.invariant (omega arith) in

@@ -40,7 +40,6 @@ shape_of-out c =
 
 pub returns : goal.returns
 returns c =
-    
     let all = let a = c.args in
     let p = c.requires in
     let w = array_wrote a.list.now a.at c.wide-n.result a.out.now c.put_bytes.new.out c.put_dimensions.new.out p.0 c.wide-n.ensures p.1 c.put_bytes.ensures c.put_dimensions.ensures in

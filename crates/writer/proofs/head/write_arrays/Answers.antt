@@ -48,7 +48,6 @@ shape_of-out c = c.loop-left.invariant.1.long
 
 pub returns : goal.returns
 returns c =
-    
     let all = let a = c.args in
     let l = c.loop-left in
     writing_end (arrays_bytes_at a.list.now a.at a.n) a.out.now (arrays_bytes_at a.list.now l.from l.left) l.to l.out l.invariant.1 (arrays_none a.list.now l.from l.left (omega arith)) in

@@ -165,7 +165,6 @@ shape_of-out c =
 
 pub returns : goal.returns
 returns c =
-    
     let all = let a = c.args in
     let w = a.list.now in
     let z = c.requires.0 in

@@ -10,7 +10,6 @@ write_literal-requires c =
 
 pub returns-then-code-eq-LITERAL : goal.returns-then-code-eq-LITERAL
 returns-then-code-eq-LITERAL c =
-    
     let all = let a = c.args in
     literal_wrote a.list.now a.at c.wide-code.result c.wide-x.result c.wide-code.ensures c.wide-x.ensures c.write_literal.result a.out.now _ c.if-code-eq-LITERAL.true c.write_literal.ensures.long c.write_literal.ensures.frame in
     record { long = all.0; frame = all.1 }
@@ -23,7 +22,6 @@ write_constant-requires c =
 
 pub returns-then-code-eq-CONSTANT : goal.returns-then-code-eq-CONSTANT
 returns-then-code-eq-CONSTANT c =
-    
     let all = let a = c.args in
     constant_wrote a.list.now a.at c.wide-code.result c.wide-x.result c.wide-code.ensures c.wide-x.ensures c.write_constant.result a.out.now _ c.if-code-eq-LITERAL.false c.if-code-eq-CONSTANT.true c.write_constant.ensures.long c.write_constant.ensures.frame in
     record { long = all.0; frame = all.1 }
@@ -36,7 +34,6 @@ write_operator-requires c =
 
 pub returns-then-code-eq-OPERATOR : goal.returns-then-code-eq-OPERATOR
 returns-then-code-eq-OPERATOR c =
-    
     let all = let a = c.args in
     operator_wrote a.list.now a.at c.wide-code.result c.wide-x.result c.wide-code.ensures c.wide-x.ensures c.write_operator.result a.out.now _ c.if-code-eq-LITERAL.false c.if-code-eq-CONSTANT.false c.if-code-eq-OPERATOR.true c.write_operator.ensures.long c.write_operator.ensures.frame in
     record { long = all.0; frame = all.1 }
@@ -49,7 +46,6 @@ write_cell-requires c =
 
 pub returns : goal.returns
 returns c =
-    
     let all = let a = c.args in
     let p = c.requires in
     cell_wrote a.list.now a.at c.wide-code.result c.wide-x.result c.wide-code.ensures c.wide-x.ensures c.write_cell.result a.out.now _ c.wide-cell.result c.wide-cell.ensures p.0 c.if-code-eq-LITERAL.false c.if-code-eq-CONSTANT.false c.if-code-eq-OPERATOR.false c.write_cell.ensures.long c.write_cell.ensures.frame in

@@ -100,7 +100,6 @@ shape_of-out c = c.loop-left.invariant.1.long
 
 pub returns : goal.returns
 returns c =
-    
     let all = let a = c.args in
     let l = c.loop-left in
     writing_end (records_bytes a.list.now 98 a.n) a.out.now (records_bytes a.list.now l.at l.left) l.to l.out l.invariant.1 (records_none a.list.now l.at l.left (omega arith)) in
