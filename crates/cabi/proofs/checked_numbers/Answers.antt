@@ -1,0 +1,10 @@
+use Rattle.cabi.proofs.checked_numbers.Goals as goal
+
+pub returns-in-Accepted : goal.returns-in-Accepted
+returns-in-Accepted c = rw c.in-Accepted.is c.count.ensures
+
+pub returns-in-Refused : goal.returns-in-Refused
+returns-in-Refused c = rw c.in-Refused.is c.refusal.ensures
+
+pub returns-in-Short : goal.returns-in-Short
+returns-in-Short c = rw c.in-Short.is c.refusal-in-Short.ensures
