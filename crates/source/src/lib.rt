@@ -2,6 +2,8 @@
 #![tactic(auto)]
 
 ghost use Rattle.std.specs.Prelude.{◌≡◌, ◌≤◌, IfOk, length};
+ghost use Rattle.std.specs.Io.KnownBytes.{ReadConsumes};
+ghost use Rattle.source.specs.Filled.{Filled};
 ghost use Rattle.source.specs.Within.{Within};
 
 use std::io;
@@ -17,12 +19,13 @@ pub enum Got {
 // How often one read is tried while signals interrupt it; then it has failed.
 const AGAIN: usize = 1000;
 
-// Reads until buf is full, the input ends or a read fails. Proved: the count lies within buf, and buf keeps its length. What the
-// contract of read does not say can't be promised: that the bytes are those of the input, in order, that fewer than asked
-// means that the input ended, and that what is tried again was an interrupted read.
+// Reads until buf is full, the input ends or a read fails. Proved: the count lies within buf, and buf keeps its length; of a reader
+// that says which bytes it has left, that these are put into buf in their order, and that fewer than asked means that none is left.
+// Standard input does not say, and no contract tells that what is tried again was an interrupted read.
 pub fn fill<R: Read>(input: &mut R, buf: &mut [u8]) -> Got
     ensures within { Within (length buf.old) result }
     ensures buf_len_unchanged { length buf.new ≡ length buf.old }
+    ensures bytes { Filled (R.remaining input.old) (R.remaining input.new) buf.new result }
 {
     let mut done: usize = 0;
     while done < buf.len() {
@@ -39,6 +42,7 @@ pub fn fill<R: Read>(input: &mut R, buf: &mut [u8]) -> Got
 fn read_again<R: Read>(input: &mut R, buf: &mut [u8]) -> io::Result<usize>
     ensures bound { IfOk result (λ n. n ≤ length buf.new) }
     ensures buf_len_unchanged { length buf.new ≡ length buf.old }
+    ensures bytes { ReadConsumes (R.remaining input.old) (R.remaining input.new) result buf.new }
 {
     let mut left = AGAIN;
     while left > 0 {
