@@ -9,6 +9,7 @@ use comparer::reply::Reply;
 use comparer::{LENGTHS_BYTES, Lengths, Line, MOST_PAIRS, Totals};
 use model::sizes::{CELL_WORDS, LIST_WORDS, TERM_WORDS};
 use source::Got;
+use std::io::Read;
 
 // The bytes of the longest pair, behind its lengths.
 const BODY_BYTES: usize = 32768;
@@ -21,13 +22,16 @@ enum Next {
     Failed,
 }
 
-fn main() {
+fn main(rt: HostRuntime) {
+    let mut stdin = rt.stdin();
     let mut body = [0u8; BODY_BYTES];
     let mut left_list = [0u32; LIST_WORDS];
     let mut right_list = [0u32; LIST_WORDS];
     let mut cells = [0u32; CELL_WORDS];
     let mut terms = [0u32; TERM_WORDS];
     run(
+        &rt,
+        &mut stdin,
         &mut body,
         &mut left_list,
         &mut right_list,
@@ -37,6 +41,8 @@ fn main() {
 }
 
 fn run(
+    rt: &(impl Print + Eprint),
+    input: &mut impl Read,
     body: &mut [u8],
     left_list: &mut [u32],
     right_list: &mut [u32],
@@ -48,12 +54,12 @@ fn run(
     let mut totals = comparer::no_totals();
     let mut left = MOST_PAIRS;
     while left > 0 {
-        match turn(totals, body, left_list, right_list, cells, terms) {
+        match turn(rt, input, totals, body, left_list, right_list, cells, terms) {
             Next::Pair(next) => {
                 totals = next;
             }
             Next::Last(next) => {
-                close(next);
+                close(rt, next);
                 return;
             }
             Next::Failed => {
@@ -62,11 +68,13 @@ fn run(
         }
         left -= 1;
     }
-    close(totals);
+    close(rt, totals);
 }
 
 // The bytes of a pair's lengths.
 fn turn(
+    rt: &(impl Print + Eprint),
+    input: &mut impl Read,
     totals: Totals,
     body: &mut [u8],
     left_list: &mut [u32],
@@ -77,30 +85,35 @@ fn turn(
     requires { 32768 ≤ length body.old }
 {
     let mut head = [0u8; LENGTHS_BYTES];
-    match source::fill(libc::STDIN_FILENO, &mut head) {
-        Got::Failed(_) => unread(),
+    match source::fill(input, &mut head) {
+        Got::Failed(_) => unread(rt),
         Got::Bytes(n) => match comparer::pair_lengths(&head[0..n]) {
             Lengths::Ended => Next::Last(totals),
             Lengths::Refused(side, number) => answered(
+                rt,
                 totals,
                 comparer::lengths_reply(side, number),
                 false,
             ),
-            Lengths::Sizes(l, r) => behind(totals, l, r, body, left_list, right_list, cells, terms),
+            Lengths::Sizes(l, r) => behind(
+                rt, input, totals, l, r, body, left_list, right_list, cells, terms,
+            ),
         },
     }
 }
 
 // The next n bytes of the input.
-fn take(body: &mut [u8], n: usize) -> Got
+fn take(input: &mut impl Read, body: &mut [u8], n: usize) -> Got
     requires { n ≤ length body.old }
     ensures { Within n result }
 {
-    source::fill(libc::STDIN_FILENO, &mut body[0..n])
+    source::fill(input, &mut body[0..n])
 }
 
 // The bytes behind the lengths.
 fn behind(
+    rt: &(impl Print + Eprint),
+    input: &mut impl Read,
     totals: Totals,
     left: usize,
     right: usize,
@@ -112,8 +125,8 @@ fn behind(
 ) -> Next
     requires { (left ≤ 16384) × (right ≤ 16384) × (32768 ≤ length body.old) }
 {
-    match take(body, left + right) {
-        Got::Failed(_) => unread(),
+    match take(input, body, left + right) {
+        Got::Failed(_) => unread(rt),
         Got::Bytes(k) => {
             let reply = comparer::compare_pair(
                 &body[0..k],
@@ -124,14 +137,14 @@ fn behind(
                 cells,
                 terms,
             );
-            answered(totals, reply, comparer::pair_whole(k, left, right))
+            answered(rt, totals, reply, comparer::pair_whole(k, left, right))
         }
     }
 }
 
 // A reply's line, then the next pair if this one is whole.
-fn answered(totals: Totals, reply: Reply, whole: bool) -> Next {
-    if !print(comparer::line_of(reply)) {
+fn answered(rt: &(impl Print + Eprint), totals: Totals, reply: Reply, whole: bool) -> Next {
+    if !print(rt, comparer::line_of(reply)) {
         return Next::Failed;
     }
     let next = comparer::count_reply(totals, reply);
@@ -142,35 +155,34 @@ fn answered(totals: Totals, reply: Reply, whole: bool) -> Next {
     }
 }
 
-fn close(totals: Totals) {
-    print(comparer::totals_line(totals));
+fn close(rt: &(impl Print + Eprint), totals: Totals) {
+    print(rt, comparer::totals_line(totals));
 }
 
-fn unread() -> Next {
-    io::write_all(
-        libc::STDERR_FILENO,
-        b"batch: a read of standard input failed\n",
-    );
+fn unread(rt: &impl Eprint) -> Next {
+    complain(rt, "batch: a read of standard input failed");
     Next::Failed
 }
 
 // Whether all of it was written.
-fn print(line: Line) -> bool {
+fn print(rt: &(impl Print + Eprint), line: Line) -> bool {
     let bytes = line.bytes;
-    if write(&bytes, line.len) {
+    if write(rt, &bytes, line.len) {
         return true;
     }
-    io::write_all(
-        libc::STDERR_FILENO,
-        b"batch: a write to standard output failed\n",
-    );
+    complain(rt, "batch: a write to standard output failed");
     false
 }
 
-fn write(bytes: &[u8], n: usize) -> bool {
+fn write(out: &impl Print, bytes: &[u8], n: usize) -> bool {
     if n <= bytes.len() {
-        io::write_all(libc::STDOUT_FILENO, &bytes[0..n])
+        out.write_all(&bytes[0..n]).is_ok()
     } else {
         false
     }
+}
+
+// Where this write fails too, nothing is left to do.
+fn complain(rt: &impl Eprint, message: &str) {
+    let _ = rt.eprintln(message);
 }

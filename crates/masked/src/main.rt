@@ -9,31 +9,29 @@ use model::sizes::{CELL_WORDS, LIST_WORDS, TERM_WORDS};
 use reader::fields::pair;
 use source::Got;
 
-fn main() {
+fn main(rt: HostRuntime) {
+    let mut stdin = rt.stdin();
     let mut input = [0u8; 32773];
-    match source::fill(libc::STDIN_FILENO, &mut input) {
+    match source::fill(&mut stdin, &mut input) {
         Got::Bytes(n) => {
-            masked(&input[0..n]);
+            masked(&rt, &input[0..n]);
         }
         Got::Failed(_) => {
-            io::write_all(
-                libc::STDERR_FILENO,
-                b"masked: a read of standard input failed\n",
-            );
+            complain(&rt, "masked: a read of standard input failed");
         }
     }
 }
 
 // Where the mask is not there as a whole, nothing is left for the pair, which is refused for it.
-fn masked(input: &[u8]) {
+fn masked(rt: &(impl Print + Eprint), input: &[u8]) {
     if input.len() < 2 {
-        answer(&input[0..0], 0);
+        answer(rt, &input[0..0], 0);
         return;
     }
-    answer(&input[2..], pair(input[0], input[1]));
+    answer(rt, &input[2..], pair(input[0], input[1]));
 }
 
-fn answer(input: &[u8], mask: u16) {
+fn answer(rt: &(impl Print + Eprint), input: &[u8], mask: u16) {
     let mut left_list = [0u32; LIST_WORDS];
     let mut right_list = [0u32; LIST_WORDS];
     let mut cells = [0u32; CELL_WORDS];
@@ -48,10 +46,10 @@ fn answer(input: &[u8], mask: u16) {
     );
     let line = comparer::line_of(reply);
     let bytes = line.bytes;
-    print(&bytes, line.len);
+    print(rt, &bytes, line.len);
     if differ(reply) {
-        explain(input, mask, Chosen::Left);
-        explain(input, mask, Chosen::Right);
+        explain(rt, input, mask, Chosen::Left);
+        explain(rt, input, mask, Chosen::Right);
     }
 }
 
@@ -63,7 +61,7 @@ fn differ(reply: Reply) -> bool {
     }
 }
 
-fn explain(input: &[u8], mask: u16, side: Chosen) {
+fn explain(rt: &(impl Print + Eprint), input: &[u8], mask: u16, side: Chosen) {
     let mut left_list = [0u32; LIST_WORDS];
     let mut right_list = [0u32; LIST_WORDS];
     let mut cells = [0u32; CELL_WORDS];
@@ -79,16 +77,18 @@ fn explain(input: &[u8], mask: u16, side: Chosen) {
     );
     let line = comparer::explanation_line(explanation);
     let bytes = line.bytes;
-    print(&bytes, line.len);
+    print(rt, &bytes, line.len);
 }
 
-fn print(bytes: &[u8], n: usize) {
+fn print(rt: &(impl Print + Eprint), bytes: &[u8], n: usize) {
     if n <= bytes.len() {
-        if !io::write_all(libc::STDOUT_FILENO, &bytes[0..n]) {
-            io::write_all(
-                libc::STDERR_FILENO,
-                b"masked: a write to standard output failed\n",
-            );
+        if rt.write_all(&bytes[0..n]).is_err() {
+            complain(rt, "masked: a write to standard output failed");
         }
     }
+}
+
+// Where this write fails too, nothing is left to do.
+fn complain(rt: &impl Eprint, message: &str) {
+    let _ = rt.eprintln(message);
 }

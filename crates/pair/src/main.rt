@@ -5,22 +5,20 @@
 use model::sizes::{CELL_WORDS, LIST_WORDS, TERM_WORDS};
 use source::Got;
 
-fn main() {
+fn main(rt: HostRuntime) {
+    let mut stdin = rt.stdin();
     let mut input = [0u8; 32771];
-    match source::fill(libc::STDIN_FILENO, &mut input) {
+    match source::fill(&mut stdin, &mut input) {
         Got::Bytes(n) => {
-            answer(&input[0..n]);
+            answer(&rt, &input[0..n]);
         }
         Got::Failed(_) => {
-            io::write_all(
-                libc::STDERR_FILENO,
-                b"pair: a read of standard input failed\n",
-            );
+            complain(&rt, "pair: a read of standard input failed");
         }
     }
 }
 
-fn answer(input: &[u8]) {
+fn answer(rt: &(impl Print + Eprint), input: &[u8]) {
     let mut left_list = [0u32; LIST_WORDS];
     let mut right_list = [0u32; LIST_WORDS];
     let mut cells = [0u32; CELL_WORDS];
@@ -34,16 +32,18 @@ fn answer(input: &[u8]) {
     );
     let line = comparer::line_of(reply);
     let bytes = line.bytes;
-    print(&bytes, line.len);
+    print(rt, &bytes, line.len);
 }
 
-fn print(bytes: &[u8], n: usize) {
+fn print(rt: &(impl Print + Eprint), bytes: &[u8], n: usize) {
     if n <= bytes.len() {
-        if !io::write_all(libc::STDOUT_FILENO, &bytes[0..n]) {
-            io::write_all(
-                libc::STDERR_FILENO,
-                b"pair: a write to standard output failed\n",
-            );
+        if rt.write_all(&bytes[0..n]).is_err() {
+            complain(rt, "pair: a write to standard output failed");
         }
     }
+}
+
+// Where this write fails too, nothing is left to do.
+fn complain(rt: &impl Eprint, message: &str) {
+    let _ = rt.eprintln(message);
 }

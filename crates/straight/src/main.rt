@@ -8,72 +8,74 @@ use source::Got;
 use unroller::Unrolled;
 use writer::Written;
 
-fn main() {
+fn main(rt: HostRuntime) {
+    let mut stdin = rt.stdin();
+    let stdout = rt.stdout();
+    let stderr = rt.stderr();
     let mut program = [0u8; 16385];
-    match source::fill(libc::STDIN_FILENO, &mut program) {
+    match source::fill(&mut stdin, &mut program) {
         Got::Bytes(n) => {
-            unrolled(&program[0..n]);
+            unrolled(&stdout, &stderr, &program[0..n]);
         }
         Got::Failed(_) => {
-            io::write_all(
-                libc::STDERR_FILENO,
-                b"straight: a read of standard input failed\n",
-            );
+            complain(&stderr, "straight: a read of standard input failed");
         }
     }
 }
 
 // 2 to 20; the list is long enough for 25.
-fn unrolled(program: &[u8]) {
+fn unrolled(out: &impl Print, err: &impl Print, program: &[u8]) {
     let mut list = [0u32; LIST_WORDS];
     match unroller::unroll(program, &mut list) {
         Unrolled::Updates(_) => {
-            written(&list);
+            written(out, err, &list);
         }
         Unrolled::Refused(question, place) => {
-            refuse(Side::Left, question, place);
+            refuse(err, Side::Left, question, place);
         }
         Unrolled::Short => {
-            refuse(Side::Both, 25, 0);
+            refuse(err, Side::Both, 25, 0);
         }
     }
 }
 
 // 28 and 29; what was unrolled is accepted.
-fn written(list: &[u32]) {
-    let mut out = [0u8; MOST_BYTES];
-    match writer::write_file(list, &mut out) {
+fn written(out: &impl Print, err: &impl Print, list: &[u32]) {
+    let mut file = [0u8; MOST_BYTES];
+    match writer::write_file(list, &mut file) {
         Written::File(n) => {
-            print(libc::STDOUT_FILENO, &out, n);
+            print(out, err, &file, n);
         }
         Written::Short => {
-            refuse(Side::Both, 25, 0);
+            refuse(err, Side::Both, 25, 0);
         }
         Written::Refused => {
-            refuse(Side::Left, 26, 0);
+            refuse(err, Side::Left, 26, 0);
         }
         Written::Wide(update) => {
-            refuse(Side::Left, 28, update);
+            refuse(err, Side::Left, 28, update);
         }
         Written::Long => {
-            refuse(Side::Left, 29, 0);
+            refuse(err, Side::Left, 29, 0);
         }
     }
 }
 
-fn refuse(side: Side, question: u8, place: usize) {
+fn refuse(err: &impl Print, side: Side, question: u8, place: usize) {
     let line = comparer::line_of(Reply::Refused(side, question, place));
     let bytes = line.bytes;
-    print(libc::STDERR_FILENO, &bytes, line.len);
+    print(err, err, &bytes, line.len);
 }
 
-fn print(fd: i32, bytes: &[u8], n: usize) {
+fn print(to: &impl Print, err: &impl Print, bytes: &[u8], n: usize) {
     if n <= bytes.len() {
-        if !io::write_all(fd, &bytes[0..n]) {
-            io::write_all(
-                libc::STDERR_FILENO,
-                b"straight: a write to standard output failed\n",
-            );
+        if to.write_all(&bytes[0..n]).is_err() {
+            complain(err, "straight: a write to standard output failed");
         }
     }
+}
+
+// Where this write fails too, nothing is left to do.
+fn complain(err: &impl Print, message: &str) {
+    let _ = err.println(message);
 }
