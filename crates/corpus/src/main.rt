@@ -1,37 +1,41 @@
 // Reads a stream of framed pairs (separate/README.md, "Streams") from standard input and prints the line of each.
 #![tactic(auto)]
 
-use model::sizes::{CELL_WORDS, LIST_WORDS, TERM_WORDS};
+ghost use Rattle.std.specs.Prelude.{◌≤◌, length};
 
-fn main() {
-    let mut turns: u32 = 0;
-    while turns < 100000000 {
-        turns += 1;
-        if !next() {
+use model::sizes::{CELL_WORDS, LIST_WORDS, TERM_WORDS};
+use source::Got;
+use std::io::Read;
+
+fn main(rt: HostRuntime) {
+    let mut stdin = rt.stdin();
+    for _turn in 0..100000000u32 {
+        if !next(&rt, &mut stdin) {
             return;
         }
     }
 }
 
 // The next pair, if there is one: a length of four bytes, then so many bytes.
-fn next() -> bool {
-    let mut input = [0u8; 65536];
-    take(&mut input, length())
+fn next(rt: &impl Print, input: &mut impl Read) -> bool {
+    let mut pair = [0u8; 65536];
+    let n = length(input);
+    take(rt, input, &mut pair, n)
 }
 
-fn take(input: &mut [u8], n: usize) -> bool {
-    if n > input.len() {
+fn take(rt: &impl Print, input: &mut impl Read, pair: &mut [u8], n: usize) -> bool {
+    if n > pair.len() {
         return false;
     }
-    let got = io::read_full(0, &mut input[0..n]);
-    if got > input.len() {
+    let got = read_full(input, &mut pair[0..n]);
+    if got > pair.len() {
         return false;
     }
-    answer(&input[0..got]);
+    answer(rt, &pair[0..got]);
     true
 }
 
-fn answer(input: &[u8]) {
+fn answer(rt: &impl Print, input: &[u8]) {
     let mut left_list = [0u32; LIST_WORDS];
     let mut right_list = [0u32; LIST_WORDS];
     let mut cells = [0u32; CELL_WORDS];
@@ -45,24 +49,34 @@ fn answer(input: &[u8]) {
     );
     let line = comparer::line_of(reply);
     let bytes = line.bytes;
-    print(&bytes, line.len);
+    print(rt, &bytes, line.len);
 }
 
 // At the end of the stream a length that no pair has.
-fn length() -> usize {
+fn length(input: &mut impl Read) -> usize {
     let mut head = [0u8; 4];
-    if io::read_full(0, &mut head) < 4 {
+    if read_full(input, &mut head) < 4 {
         return 4294967296;
     }
     quad(head[0], head[1], head[2], head[3])
+}
+
+// How many bytes were put at the start of buf, also where a read failed behind them.
+fn read_full(input: &mut impl Read, buf: &mut [u8]) -> usize
+    ensures { result ≤ length buf.old }
+{
+    match source::fill(input, buf) {
+        Got::Bytes(n) => n,
+        Got::Failed(n) => n,
+    }
 }
 
 fn quad(a: u8, b: u8, c: u8, d: u8) -> usize {
     a as usize + 256 * (b as usize + 256 * (c as usize + 256 * (d as usize)))
 }
 
-fn print(bytes: &[u8], n: usize) {
+fn print(rt: &impl Print, bytes: &[u8], n: usize) {
     if n <= bytes.len() {
-        io::write_all(1, &bytes[0..n]);
+        let _ = rt.write_all(&bytes[0..n]);
     }
 }

@@ -5,33 +5,36 @@ use crate::pairs::{say_line, say_reply};
 use comparer::reply::{Reply, Side};
 use comparer::{Lengths, Totals};
 
-pub(crate) fn called(entry: usize, x: Args, s: &[u8]) {
+pub(crate) fn called(rt: &impl Print, entry: usize, x: Args, s: &[u8]) {
     match entry {
         39 => {
-            say_lengths(comparer::pair_lengths(s));
+            say_lengths(rt, comparer::pair_lengths(s));
         }
         41 => {
-            say_totals(comparer::count_reply(totals_of(x), reply_of(x.f, number_at(s, 0))));
+            say_totals(
+                rt,
+                comparer::count_reply(totals_of(x), reply_of(x.f, number_at(s, 0))),
+            );
         }
         _ => {
-            say_line(comparer::totals_line(totals_of(x)));
+            say_line(rt, comparer::totals_line(totals_of(x)));
         }
     }
 }
 
-fn say_lengths(lengths: Lengths) {
+fn say_lengths(rt: &impl Print, lengths: Lengths) {
     match lengths {
         Lengths::Ended => {
-            say(0);
+            say(rt, 0);
         }
         Lengths::Refused(side, number) => {
-            say(1);
-            say_reply(comparer::lengths_reply(side, number));
+            say(rt, 1);
+            say_reply(rt, comparer::lengths_reply(side, number));
         }
         Lengths::Sizes(l, r) => {
-            say(2);
-            say(l);
-            say(r);
+            say(rt, 2);
+            say(rt, l);
+            say(rt, r);
         }
     }
 }
@@ -54,16 +57,17 @@ fn reply_of(kind: usize, n: usize) -> Reply {
     }
 }
 
-fn say_totals(totals: Totals) {
-    say(totals.pairs);
-    say(totals.equal);
-    say(totals.differs);
-    say(totals.refused);
-    say(totals.elements);
+fn say_totals(rt: &impl Print, totals: Totals) {
+    say(rt, totals.pairs);
+    say(rt, totals.equal);
+    say(rt, totals.differs);
+    say(rt, totals.refused);
+    say(rt, totals.elements);
 }
 
 // Both lengths stand before the bytes.
 pub(crate) fn entered(
+    rt: &impl Print,
     s: &[u8],
     left_list: &mut [u32],
     right_list: &mut [u32],
@@ -71,12 +75,15 @@ pub(crate) fn entered(
     terms: &mut [u32],
 ) {
     if s.len() < 16 {
-        refused();
+        refused(rt);
         return;
     }
     let left = number_at(s, 0);
     let right = number_at(s, 8);
-    say_reply(comparer::compare_pair(&s[16..], left, right, left_list, right_list, cells, terms));
-    say_bool(!comparer::pair_whole(s.len() - 16, left, right));
-    say_sums(left_list, right_list, cells, terms);
+    say_reply(
+        rt,
+        comparer::compare_pair(&s[16..], left, right, left_list, right_list, cells, terms),
+    );
+    say_bool(rt, !comparer::pair_whole(s.len() - 16, left, right));
+    say_sums(rt, left_list, right_list, cells, terms);
 }

@@ -8,19 +8,19 @@ use model::byte::wide;
 use reader::fields::{i16_of, pair};
 use unroller::{Origin, Source};
 
-pub(crate) fn called(entry: usize, x: Args, s: &[u8]) {
+pub(crate) fn called(rt: &impl Print, entry: usize, x: Args, s: &[u8]) {
     match entry {
         35 => {
-            stretch(x, s);
+            stretch(rt, x, s);
         }
         36 => {
-            origin(x, s);
+            origin(rt, x, s);
         }
         37 => {
-            line(x, s);
+            line(rt, x, s);
         }
         _ => {
-            refused();
+            refused(rt);
         }
     }
 }
@@ -34,6 +34,7 @@ fn chosen(n: usize) -> Chosen {
 
 // A mask and a side stand before the two programs, of which the left has n bytes, and before framed input; or a side alone (38).
 pub(crate) fn entered(
+    rt: &impl Print,
     entry: usize,
     n: usize,
     s: &[u8],
@@ -43,15 +44,16 @@ pub(crate) fn entered(
     terms: &mut [u32],
 ) {
     if entry == 38 {
-        of_input(s, left_list, right_list, cells, terms);
+        of_input(rt, s, left_list, right_list, cells, terms);
     } else if entry == 44 {
-        of_masked_input(s, left_list, right_list, cells, terms);
+        of_masked_input(rt, s, left_list, right_list, cells, terms);
     } else {
-        of_programs(n, s, left_list, right_list, cells, terms);
+        of_programs(rt, n, s, left_list, right_list, cells, terms);
     }
 }
 
 fn of_input(
+    rt: &impl Print,
     s: &[u8],
     left_list: &mut [u32],
     right_list: &mut [u32],
@@ -59,15 +61,19 @@ fn of_input(
     terms: &mut [u32],
 ) {
     if s.len() < 1 {
-        refused();
+        refused(rt);
         return;
     }
     let side = chosen(wide(s[0]));
-    say_explanation(comparer::explain_input(&s[1..], side, left_list, right_list, cells, terms));
-    say_sums(left_list, right_list, cells, terms);
+    say_explanation(
+        rt,
+        comparer::explain_input(&s[1..], side, left_list, right_list, cells, terms),
+    );
+    say_sums(rt, left_list, right_list, cells, terms);
 }
 
 fn of_masked_input(
+    rt: &impl Print,
     s: &[u8],
     left_list: &mut [u32],
     right_list: &mut [u32],
@@ -75,24 +81,20 @@ fn of_masked_input(
     terms: &mut [u32],
 ) {
     if s.len() < 3 {
-        refused();
+        refused(rt);
         return;
     }
     let mask = pair(s[0], s[1]);
     let side = chosen(wide(s[2]));
-    say_explanation(comparer::explain_input_masked(
-        &s[3..],
-        mask,
-        side,
-        left_list,
-        right_list,
-        cells,
-        terms,
-    ));
-    say_sums(left_list, right_list, cells, terms);
+    say_explanation(
+        rt,
+        comparer::explain_input_masked(&s[3..], mask, side, left_list, right_list, cells, terms),
+    );
+    say_sums(rt, left_list, right_list, cells, terms);
 }
 
 fn of_programs(
+    rt: &impl Print,
     n: usize,
     s: &[u8],
     left_list: &mut [u32],
@@ -101,109 +103,120 @@ fn of_programs(
     terms: &mut [u32],
 ) {
     if s.len() < 3 {
-        refused();
+        refused(rt);
         return;
     }
     if n > s.len() - 3 {
-        refused();
+        refused(rt);
         return;
     }
     let end = 3 + n;
     let mask = pair(s[0], s[1]);
     let side = chosen(wide(s[2]));
-    say_explanation(comparer::explain(
-        &s[3..end],
-        &s[end..],
-        mask,
-        side,
-        left_list,
-        right_list,
-        cells,
-        terms,
-    ));
-    say_sums(left_list, right_list, cells, terms);
+    say_explanation(
+        rt,
+        comparer::explain(
+            &s[3..end],
+            &s[end..],
+            mask,
+            side,
+            left_list,
+            right_list,
+            cells,
+            terms,
+        ),
+    );
+    say_sums(rt, left_list, right_list, cells, terms);
 }
 
-pub(crate) fn say_sums(left_list: &[u32], right_list: &[u32], cells: &[u32], terms: &[u32]) {
-    say_sum(left_list);
-    say_sum(right_list);
-    say_sum(cells);
-    say_sum(terms);
+pub(crate) fn say_sums(
+    rt: &impl Print,
+    left_list: &[u32],
+    right_list: &[u32],
+    cells: &[u32],
+    terms: &[u32],
+) {
+    say_sum(rt, left_list);
+    say_sum(rt, right_list);
+    say_sum(rt, cells);
+    say_sum(rt, terms);
 }
 
 // The kind, side, question and place.
-fn say_kind(kind: usize) {
-    say(kind);
-    say(0);
-    say(0);
-    say(0);
+fn say_kind(rt: &impl Print, kind: usize) {
+    say(rt, kind);
+    say(rt, 0);
+    say(rt, 0);
+    say(rt, 0);
 }
 
-fn say_refusal(side: Side, question: u8, place: usize) {
-    say(2);
-    say_side(side);
-    say(wide(question));
-    say(place);
+fn say_refusal(rt: &impl Print, side: Side, question: u8, place: usize) {
+    say(rt, 2);
+    say_side(rt, side);
+    say(rt, wide(question));
+    say(rt, place);
 }
 
-fn say_answer(answer: Answer) {
+fn say_answer(rt: &impl Print, answer: Answer) {
     match answer {
         Answer::Written(a, e) => {
-            say_kind(0);
-            say(a);
-            say(e);
+            say_kind(rt, 0);
+            say(rt, a);
+            say(rt, e);
         }
         Answer::Starting(a, e) => {
-            say_kind(1);
-            say(a);
-            say(e);
+            say_kind(rt, 1);
+            say(rt, a);
+            say(rt, e);
         }
         Answer::Refused(side, k, p) => {
-            say_refusal(side, k, p);
-            say(0);
-            say(0);
+            say_refusal(rt, side, k, p);
+            say(rt, 0);
+            say(rt, 0);
         }
     }
 }
 
-fn say_explanation(explanation: Explanation) {
+fn say_explanation(rt: &impl Print, explanation: Explanation) {
     let answer = explanation.answer;
     let indices = explanation.indices;
-    say_answer(answer);
-    say_stretch(explanation.from, explanation.to, explanation.count, indices);
+    say_answer(rt, answer);
+    say_stretch(
+        rt,
+        explanation.from,
+        explanation.to,
+        explanation.count,
+        indices,
+    );
 }
 
-fn say_stretch(from: usize, to: usize, count: usize, indices: [i16; 8]) {
-    say(from);
-    say(to);
-    say(count);
-    let mut k: usize = 0;
-    while k < 8 {
-        say_signed(indices[k]);
-        k += 1;
+fn say_stretch(rt: &impl Print, from: usize, to: usize, count: usize, indices: [i16; 8]) {
+    say(rt, from);
+    say(rt, to);
+    say(rt, count);
+    for k in 0..8usize {
+        say_signed(rt, indices[k]);
     }
 }
 
 // The left has the first bytes, the right the others.
-fn stretch(x: Args, s: &[u8]) {
+fn stretch(rt: &impl Print, x: Args, s: &[u8]) {
     let n = x.a;
     if n > s.len() {
-        refused();
+        refused(rt);
         return;
     }
     let part = comparer::stretch(&s[0..n], &s[n..], chosen(x.b), x.c, x.d);
-    say(part.len());
-    say_byte_sum(part);
+    say(rt, part.len());
+    say_byte_sum(rt, part);
 }
 
-pub(crate) fn say_byte_sum(s: &[u8]) {
+pub(crate) fn say_byte_sum(rt: &impl Print, s: &[u8]) {
     let mut sum: u32 = 0;
-    let mut i: usize = 0;
-    while i < s.len() {
-        sum = added(sum, word(s[i]));
-        i += 1;
+    for x in s {
+        sum = added(sum, word(*x));
     }
-    say_word(sum);
+    say_word(rt, sum);
 }
 
 fn word(x: u8) -> u32 {
@@ -211,65 +224,66 @@ fn word(x: u8) -> u32 {
 }
 
 // The words that fill the list again and again come before the program.
-fn origin(x: Args, s: &[u8]) {
+fn origin(rt: &impl Print, x: Args, s: &[u8]) {
     let k = x.f;
     if k > s.len() / 4 {
-        refused();
+        refused(rt);
         return;
     }
     let mut list = [0u32; 33000];
     fill(&mut list, &s[0..4 * k], k);
-    origin_in(x, &s[4 * k..], &mut list);
+    origin_in(rt, x, &s[4 * k..], &mut list);
 }
 
-fn origin_in(x: Args, program: &[u8], list: &mut [u32]) {
+fn origin_in(rt: &impl Print, x: Args, program: &[u8], list: &mut [u32]) {
     let n = x.c;
     if n > list.len() {
-        refused();
+        refused(rt);
         return;
     }
-    say_origin(unroller::origin_of(program, x.a, x.b, &mut list[0..n]));
-    say_sum(&list[0..n]);
+    say_origin(rt, unroller::origin_of(program, x.a, x.b, &mut list[0..n]));
+    say_sum(rt, &list[0..n]);
 }
 
-fn say_origin(origin: Origin) {
+fn say_origin(rt: &impl Print, origin: Origin) {
     let source = origin.source;
     let indices = origin.indices;
-    say_source(source);
-    say_stretch(origin.from, origin.to, origin.count, indices);
+    say_source(rt, source);
+    say_stretch(rt, origin.from, origin.to, origin.count, indices);
 }
 
-fn say_source(source: Source) {
+fn say_source(rt: &impl Print, source: Source) {
     match source {
         Source::Written => {
-            say_kind(0);
+            say_kind(rt, 0);
         }
         Source::Starting => {
-            say_kind(1);
+            say_kind(rt, 1);
         }
         Source::Refused(k, p) => {
-            say_refusal(Side::Left, k, p);
+            say_refusal(rt, Side::Left, k, p);
         }
         Source::Short => {
-            say_refusal(Side::Both, 25, 0);
+            say_refusal(rt, Side::Both, 25, 0);
         }
     }
 }
 
-fn line(x: Args, s: &[u8]) {
+fn line(rt: &impl Print, x: Args, s: &[u8]) {
     let mut indices = [0i16; 8];
-    let mut k: usize = 0;
-    while k < 8 {
+    for k in 0..8usize {
         indices[k] = index_at(s, 2 * k);
-        k += 1;
     }
-    say_line(comparer::explanation_line(Explanation {
-        answer: answer_of(x),
-        from: x.d,
-        to: x.e,
-        count: x.f,
-        indices,
-    }));
+    say_line(
+        rt,
+        comparer::explanation_line(Explanation {
+            answer: answer_of(x),
+            from: x.d,
+            to: x.e,
+            count: x.f,
+            indices,
+        }),
+    );
 }
 
 fn answer_of(x: Args) -> Answer {

@@ -9,89 +9,89 @@ use reader::Verdict;
 use reader::tables::FlatTables;
 
 // Over tables too.
-pub(crate) fn nested(entry: usize, x: Args, tables: &FlatTables, s: &[u8]) {
+pub(crate) fn nested(rt: &impl Print, entry: usize, x: Args, tables: &FlatTables, s: &[u8]) {
     if entry == 18 {
-        say_field(reader::expressions::expression_end(s, x.a, tables, x.b));
+        say_field(rt, reader::expressions::expression_end(s, x.a, tables, x.b));
     } else {
-        say_place(reader::items::items_end(s, x.a, tables, x.b, x.c));
+        say_place(rt, reader::items::items_end(s, x.a, tables, x.b, x.c));
     }
 }
 
-pub(crate) fn called(entry: usize, x: Args, s: &[u8]) {
+pub(crate) fn called(rt: &impl Print, entry: usize, x: Args, s: &[u8]) {
     match entry {
         20 => {
-            form(s, x.a, x.b);
+            form(rt, s, x.a, x.b);
         }
         21 => {
-            say_place(reader::expressions::forms_end(s, x.a, x.b, x.c));
+            say_place(rt, reader::expressions::forms_end(s, x.a, x.b, x.c));
         }
         22 => {
-            head(s);
+            head(rt, s);
         }
         23 => {
-            verdict(s);
+            verdict(rt, s);
         }
         _ => {
-            standing(entry, x, s);
+            standing(rt, entry, x, s);
         }
     }
 }
 
 // A `Reader` that stands at a place.
-fn standing(entry: usize, x: Args, s: &[u8]) {
+fn standing(rt: &impl Print, entry: usize, x: Args, s: &[u8]) {
     match entry {
         24 => {
-            say(place_at(s, x.a));
+            say(rt, place_at(s, x.a));
         }
         25 => {
-            say(left_at(s, x.a));
+            say(rt, left_at(s, x.a));
         }
         26 => {
-            say_signed_field(signed_at(s, x.a));
+            say_signed_field(rt, signed_at(s, x.a));
         }
         _ => {
-            refused();
+            refused(rt);
         }
     }
 }
 
-fn form(s: &[u8], at: usize, loops: usize) {
+fn form(rt: &impl Print, s: &[u8], at: usize, loops: usize) {
     let read = reader::forms::form_at(s, at, loops);
     let answer = read.answer;
     let c = read.coefficients;
-    say_place(answer);
-    say_signed(read.constant);
-    coefficients(&c);
+    say_place(rt, answer);
+    say_signed(rt, read.constant);
+    coefficients(rt, &c);
 }
 
-fn coefficients(c: &[i8; 8]) {
-    say_small(c[0]);
-    say_small(c[1]);
-    say_small(c[2]);
-    say_small(c[3]);
-    say_small(c[4]);
-    say_small(c[5]);
-    say_small(c[6]);
-    say_small(c[7]);
+fn coefficients(rt: &impl Print, c: &[i8; 8]) {
+    say_small(rt, c[0]);
+    say_small(rt, c[1]);
+    say_small(rt, c[2]);
+    say_small(rt, c[3]);
+    say_small(rt, c[4]);
+    say_small(rt, c[5]);
+    say_small(rt, c[6]);
+    say_small(rt, c[7]);
 }
 
-fn head(s: &[u8]) {
+fn head(rt: &impl Print, s: &[u8]) {
     let read = reader::header::tables_of(s);
     let answer = read.answer;
     let tables = read.tables;
-    say_place(answer);
-    say_tables(tables);
+    say_place(rt, answer);
+    say_tables(rt, tables);
 }
 
-fn verdict(s: &[u8]) {
+fn verdict(rt: &impl Print, s: &[u8]) {
     match reader::read_program(s) {
         Verdict::Accepted => {
-            say(1);
+            say(rt, 1);
         }
         Verdict::Refused(number, place) => {
-            say(0);
-            say(wide(number));
-            say(place);
+            say(rt, 0);
+            say(rt, wide(number));
+            say(rt, place);
         }
     }
 }

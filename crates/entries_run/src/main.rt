@@ -15,51 +15,65 @@ mod store;
 mod tabled;
 mod writes;
 
+ghost use Rattle.std.specs.Prelude.{◌≤◌, length};
+
 use crate::numbers::{Args, number_at, number_of, refused};
 use model::byte::wide;
 use reader::tables::FLAT;
+use source::Got;
+use std::io::Read;
 
-fn main() {
-    let mut turns: u32 = 0;
-    while turns < 100000000 {
-        turns += 1;
-        if !next() {
+fn main(rt: HostRuntime) {
+    let mut stdin = rt.stdin();
+    for _turn in 0..100000000u32 {
+        if !next(&rt, &mut stdin) {
             return;
         }
     }
 }
 
 // The next record, if there is one: a length of four bytes, then so many bytes.
-fn next() -> bool {
+fn next(rt: &impl Print, input: &mut impl Read) -> bool {
     let mut record = [0u8; 65536];
-    take(&mut record, length())
+    let n = length(input);
+    take(rt, input, &mut record, n)
 }
 
-fn take(record: &mut [u8], n: usize) -> bool {
+fn take(rt: &impl Print, input: &mut impl Read, record: &mut [u8], n: usize) -> bool {
     if n > record.len() {
         return false;
     }
-    let got = io::read_full(0, &mut record[0..n]);
+    let got = read_full(input, &mut record[0..n]);
     if got > record.len() {
         return false;
     }
-    answer(&record[0..got]);
+    answer(rt, &record[0..got]);
     true
 }
 
 // At the end of the stream a length that no record has.
-fn length() -> usize {
+fn length(input: &mut impl Read) -> usize {
     let mut head = [0u8; 4];
-    if io::read_full(0, &mut head) < 4 {
+    if read_full(input, &mut head) < 4 {
         return 4294967296;
     }
     number_of(&head)
 }
 
+// How many bytes were put at the start of buf, also where a read failed behind them.
+fn read_full(input: &mut impl Read, buf: &mut [u8]) -> usize
+    ensures { result ≤ length buf.old }
+{
+    match source::fill(input, buf) {
+        Got::Bytes(n) => n,
+        Got::Failed(n) => n,
+    }
+}
+
 // The entry's number, six arguments of eight bytes each, and what is lent.
-fn answer(record: &[u8]) {
+fn answer(rt: &impl Print, record: &[u8]) {
     if record.len() < 49 {
-        io::write_all(1, b"-\n");
+        let _ = println!(rt; "-");
         return;
     }
     let x = Args {
@@ -71,44 +85,44 @@ fn answer(record: &[u8]) {
         f: number_at(record, 41),
     };
     let entry = wide(record[0]);
-    io::print_decimal(1, entry as u64);
-    called(entry, x, &record[49..]);
-    io::write_all(1, b"\n");
+    let _ = print!(rt; "{entry}");
+    called(rt, entry, x, &record[49..]);
+    let _ = println!(rt);
 }
 
-fn called(entry: usize, x: Args, s: &[u8]) {
+fn called(rt: &impl Print, entry: usize, x: Args, s: &[u8]) {
     if entry < 10 {
-        single::called(entry, x, s);
+        single::called(rt, entry, x, s);
     } else if entry < 20 {
-        with_tables(entry, x, s);
+        with_tables(rt, entry, x, s);
     } else if entry < 30 {
-        grammar::called(entry, x, s);
+        grammar::called(rt, entry, x, s);
     } else {
-        lending(entry, x, s);
+        lending(rt, entry, x, s);
     }
 }
 
-fn lending(entry: usize, x: Args, s: &[u8]) {
+fn lending(rt: &impl Print, entry: usize, x: Args, s: &[u8]) {
     if entry == 30 {
-        store::called(x, s);
+        store::called(rt, x, s);
     } else if entry == 45 {
-        writes::called(x, s);
+        writes::called(rt, x, s);
     } else {
-        pairs::called(entry, x, s);
+        pairs::called(rt, entry, x, s);
     }
 }
 
 // The tables stand in front of the bytes, as 115 numbers of eight bytes.
-fn with_tables(entry: usize, x: Args, s: &[u8]) {
+fn with_tables(rt: &impl Print, entry: usize, x: Args, s: &[u8]) {
     if s.len() < 920 {
-        refused();
+        refused(rt);
         return;
     }
     let mut tables = [0usize; FLAT];
     tabled::fill(&mut tables, s);
     if entry < 18 {
-        tabled::called(entry, x, &tables);
+        tabled::called(rt, entry, x, &tables);
     } else {
-        grammar::nested(entry, x, &tables, &s[920..]);
+        grammar::nested(rt, entry, x, &tables, &s[920..]);
     }
 }

@@ -32,12 +32,10 @@ pub(crate) fn added(sum: u32, word: u32) -> u32 {
     std::num::wrapping_add_u32(three, word)
 }
 
-pub(crate) fn say_sum(memory: &[u32]) {
+pub(crate) fn say_sum(rt: &impl Print, memory: &[u32]) {
     let mut sum: u32 = 0;
-    let mut i: usize = 0;
-    while i < memory.len() {
-        sum = added(sum, memory[i]);
-        i += 1;
+    for word in memory {
+        sum = added(sum, *word);
     }
-    say_word(sum);
+    say_word(rt, sum);
 }

@@ -61,81 +61,77 @@ pub(crate) fn low_pair(x: usize) -> u16 {
 }
 
 // The record has not what the entry takes.
-pub(crate) fn refused() {
-    io::write_all(1, b" -");
+pub(crate) fn refused(rt: &impl Print) {
+    let _ = print!(rt; " -");
 }
 
-pub(crate) fn say(n: usize) {
-    io::write_all(1, b" ");
-    io::print_decimal(1, n as u64);
+pub(crate) fn say(rt: &impl Print, n: usize) {
+    let _ = print!(rt; " {n}");
 }
 
-pub(crate) fn say_word(n: u32) {
-    say(wide_word(n));
+pub(crate) fn say_word(rt: &impl Print, n: u32) {
+    say(rt, wide_word(n));
 }
 
-pub(crate) fn say_bool(b: bool) {
+pub(crate) fn say_bool(rt: &impl Print, b: bool) {
     if b {
-        say(1);
+        say(rt, 1);
     } else {
-        say(0);
+        say(rt, 0);
     }
 }
 
-pub(crate) fn say_signed(v: i16) {
-    if v < 0 {
-        io::write_all(1, b" -");
-    } else {
-        io::write_all(1, b" ");
-    }
-    io::print_decimal(1, size(v) as u64);
+pub(crate) fn say_signed(rt: &impl Print, v: i16) {
+    let sign = if v < 0 { "-" } else { "" };
+    let distance = size(v);
+    let _ = print!(rt; " {sign}{distance}");
 }
 
-pub(crate) fn say_small(v: i8) {
-    say_signed(v as i16);
+pub(crate) fn say_small(rt: &impl Print, v: i8) {
+    say_signed(rt, v as i16);
 }
 
 // A question's number and its place, after the 0 that tells a refusal from an answer.
-fn say_not(number: u8, place: usize) {
-    say(0);
-    say(wide(number));
-    say(place);
+fn say_not(rt: &impl Print, number: u8, place: usize) {
+    say(rt, 0);
+    say(rt, wide(number));
+    say(rt, place);
 }
 
-pub(crate) fn say_field(field: Field) {
+pub(crate) fn say_field(rt: &impl Print, field: Field) {
     match field {
         Field::Is(x, next) => {
-            say(1);
-            say(x);
-            say(next);
+            say(rt, 1);
+            say(rt, x);
+            say(rt, next);
         }
         Field::Not(number, place) => {
-            say_not(number, place);
+            say_not(rt, number, place);
         }
     }
 }
 
-pub(crate) fn say_signed_field(field: Signed) {
+pub(crate) fn say_signed_field(rt: &impl Print, field: Signed) {
     match field {
         Signed::Is(x, next) => {
-            say(1);
-            say_signed(x);
-            say(next);
+            say(rt, 1);
+            say_signed(rt, x);
+            say(rt, next);
         }
         Signed::Not(number, place) => {
-            say_not(number, place);
+            say_not(rt, number, place);
         }
     }
 }
 
-pub(crate) fn say_place(place: Place) {
+pub(crate) fn say_place(rt: &impl Print, place: Place) {
     match place {
         Place::Next(next) => {
-            say(1);
-            say(next);
+            say(rt, 1);
+            say(rt, next);
         }
         Place::Not(number, at) => {
-            say_not(number, at);
+            say_not(rt, number, at);
         }
     }
 }

@@ -9,53 +9,53 @@ use comparer::{LINE_BYTES, Line};
 use model::byte::wide;
 use reader::fields::pair;
 
-pub(crate) fn called(entry: usize, x: Args, s: &[u8]) {
+pub(crate) fn called(rt: &impl Print, entry: usize, x: Args, s: &[u8]) {
     match entry {
         31 => {
-            compared(entry, x, s);
+            compared(rt, entry, x, s);
         }
         32 => {
-            compared(entry, x, s);
+            compared(rt, entry, x, s);
         }
         33 => {
-            say_line(comparer::line_of(reply_of(x)));
+            say_line(rt, comparer::line_of(reply_of(x)));
         }
         34 => {
-            compared(entry, x, s);
+            compared(rt, entry, x, s);
         }
         38 => {
-            compared(entry, x, s);
+            compared(rt, entry, x, s);
         }
         40 => {
-            compared(entry, x, s);
+            compared(rt, entry, x, s);
         }
         43 => {
-            compared(entry, x, s);
+            compared(rt, entry, x, s);
         }
         44 => {
-            compared(entry, x, s);
+            compared(rt, entry, x, s);
         }
         _ => {
-            others(entry, x, s);
+            others(rt, entry, x, s);
         }
     }
 }
 
-fn others(entry: usize, x: Args, s: &[u8]) {
+fn others(rt: &impl Print, entry: usize, x: Args, s: &[u8]) {
     if entry < 39 {
-        explanations::called(entry, x, s);
+        explanations::called(rt, entry, x, s);
     } else if entry < 43 {
-        batches::called(entry, x, s);
+        batches::called(rt, entry, x, s);
     } else {
-        refused();
+        refused(rt);
     }
 }
 
 // The words that fill each memory again and again come before the bytes.
-fn compared(entry: usize, x: Args, s: &[u8]) {
+fn compared(rt: &impl Print, entry: usize, x: Args, s: &[u8]) {
     let k = x.f;
     if k > s.len() / 4 {
-        refused();
+        refused(rt);
         return;
     }
     let words = &s[0..4 * k];
@@ -68,6 +68,7 @@ fn compared(entry: usize, x: Args, s: &[u8]) {
     fill(&mut cells, words, k);
     fill(&mut terms, words, k);
     lent(
+        rt,
         entry,
         x,
         &s[4 * k..],
@@ -80,6 +81,7 @@ fn compared(entry: usize, x: Args, s: &[u8]) {
 
 // So many words of each.
 fn lent(
+    rt: &impl Print,
     entry: usize,
     x: Args,
     s: &[u8],
@@ -93,22 +95,23 @@ fn lent(
     let third = x.d;
     let fourth = x.e;
     if one > left_list.len() {
-        refused();
+        refused(rt);
         return;
     }
     if other > right_list.len() {
-        refused();
+        refused(rt);
         return;
     }
     if third > cells.len() {
-        refused();
+        refused(rt);
         return;
     }
     if fourth > terms.len() {
-        refused();
+        refused(rt);
         return;
     }
     entered(
+        rt,
         entry,
         x.a,
         s,
@@ -120,6 +123,7 @@ fn lent(
 }
 
 fn entered(
+    rt: &impl Print,
     entry: usize,
     n: usize,
     s: &[u8],
@@ -129,27 +133,28 @@ fn entered(
     terms: &mut [u32],
 ) {
     if entry == 40 {
-        batches::entered(s, left_list, right_list, cells, terms);
+        batches::entered(rt, s, left_list, right_list, cells, terms);
         return;
     }
     if entry == 43 {
-        masked(s, left_list, right_list, cells, terms);
+        masked(rt, s, left_list, right_list, cells, terms);
         return;
     }
     if entry >= 34 {
-        explanations::entered(entry, n, s, left_list, right_list, cells, terms);
+        explanations::entered(rt, entry, n, s, left_list, right_list, cells, terms);
         return;
     }
     if n > s.len() {
-        refused();
+        refused(rt);
         return;
     }
-    say_reply(reply(entry, n, s, left_list, right_list, cells, terms));
-    say_sums(left_list, right_list, cells, terms);
+    say_reply(rt, reply(entry, n, s, left_list, right_list, cells, terms));
+    say_sums(rt, left_list, right_list, cells, terms);
 }
 
 // A mask stands before framed input.
 fn masked(
+    rt: &impl Print,
     s: &[u8],
     left_list: &mut [u32],
     right_list: &mut [u32],
@@ -157,12 +162,15 @@ fn masked(
     terms: &mut [u32],
 ) {
     if s.len() < 2 {
-        refused();
+        refused(rt);
         return;
     }
     let mask = pair(s[0], s[1]);
-    say_reply(comparer::compare_input_masked(&s[2..], mask, left_list, right_list, cells, terms));
-    say_sums(left_list, right_list, cells, terms);
+    say_reply(
+        rt,
+        comparer::compare_input_masked(&s[2..], mask, left_list, right_list, cells, terms),
+    );
+    say_sums(rt, left_list, right_list, cells, terms);
 }
 
 // The left has n bytes of `s`, the right the others; framed input is all of `s`.
@@ -184,47 +192,47 @@ fn reply(
     comparer::compare_programs(&s[0..n], &s[n..], left_list, right_list, cells, terms)
 }
 
-pub(crate) fn say_reply(reply: Reply) {
+pub(crate) fn say_reply(rt: &impl Print, reply: Reply) {
     match reply {
         Reply::Equal(n) => {
-            say(0);
-            say(n);
+            say(rt, 0);
+            say(rt, n);
         }
         Reply::Differs(a, e) => {
-            say(1);
-            say(a);
-            say(e);
+            say(rt, 1);
+            say(rt, a);
+            say(rt, e);
         }
         Reply::Refused(side, k, p) => {
-            say(2);
-            say_side(side);
-            say(wide(k));
-            say(p);
+            say(rt, 2);
+            say_side(rt, side);
+            say(rt, wide(k));
+            say(rt, p);
         }
     }
 }
 
-pub(crate) fn say_side(side: Side) {
+pub(crate) fn say_side(rt: &impl Print, side: Side) {
     match side {
         Side::Left => {
-            say(0);
+            say(rt, 0);
         }
         Side::Right => {
-            say(1);
+            say(rt, 1);
         }
         Side::Both => {
-            say(2);
+            say(rt, 2);
         }
         Side::Input => {
-            say(3);
+            say(rt, 3);
         }
     }
 }
 
-pub(crate) fn say_line(line: Line) {
+pub(crate) fn say_line(rt: &impl Print, line: Line) {
     let bytes = line.bytes;
-    say(line.len);
-    say_bytes(&bytes);
+    say(rt, line.len);
+    say_bytes(rt, &bytes);
 }
 
 fn reply_of(x: Args) -> Reply {
@@ -244,10 +252,8 @@ pub(crate) fn side_of(n: usize) -> Side {
     }
 }
 
-fn say_bytes(bytes: &[u8; LINE_BYTES]) {
-    let mut k: usize = 0;
-    while k < LINE_BYTES {
-        say(wide(bytes[k]));
-        k += 1;
+fn say_bytes(rt: &impl Print, bytes: &[u8; LINE_BYTES]) {
+    for k in 0..LINE_BYTES {
+        say(rt, wide(bytes[k]));
     }
 }

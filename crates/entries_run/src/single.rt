@@ -5,50 +5,53 @@ use crate::numbers::{
 };
 use reader::fields::Width;
 
-pub(crate) fn called(entry: usize, x: Args, s: &[u8]) {
+pub(crate) fn called(rt: &impl Print, entry: usize, x: Args, s: &[u8]) {
     if entry < 5 {
-        plain(entry, x, s);
+        plain(rt, entry, x, s);
     } else {
-        placed(entry, x, s);
+        placed(rt, entry, x, s);
     }
 }
 
-fn plain(entry: usize, x: Args, s: &[u8]) {
+fn plain(rt: &impl Print, entry: usize, x: Args, s: &[u8]) {
     match entry {
         1 => {
-            say_bool(reader::fields::has(s, x.a, x.b));
+            say_bool(rt, reader::fields::has(s, x.a, x.b));
         }
         2 => {
-            say(reader::fields::pair(low_byte(x.a), low_byte(x.b)) as usize);
+            say(
+                rt,
+                reader::fields::pair(low_byte(x.a), low_byte(x.b)) as usize,
+            );
         }
         3 => {
-            say_small(reader::fields::i8_of(low_byte(x.a)));
+            say_small(rt, reader::fields::i8_of(low_byte(x.a)));
         }
         4 => {
-            say_signed(reader::fields::i16_of(low_pair(x.a)));
+            say_signed(rt, reader::fields::i16_of(low_pair(x.a)));
         }
         _ => {
-            refused();
+            refused(rt);
         }
     }
 }
 
-fn placed(entry: usize, x: Args, s: &[u8]) {
+fn placed(rt: &impl Print, entry: usize, x: Args, s: &[u8]) {
     match entry {
         5 => {
-            say_field(reader::fields::byte_at(s, x.a));
+            say_field(rt, reader::fields::byte_at(s, x.a));
         }
         6 => {
-            say_field(reader::fields::name_at(s, x.a));
+            say_field(rt, reader::fields::name_at(s, x.a));
         }
         7 => {
-            say_field(reader::fields::index_at(s, x.a, x.b));
+            say_field(rt, reader::fields::index_at(s, x.a, x.b));
         }
         8 => {
-            say_signed_field(reader::fields::step_at(s, x.a));
+            say_signed_field(rt, reader::fields::step_at(s, x.a));
         }
         _ => {
-            say_field(reader::cursor::field_at(s, x.a, width(x.b % 4)));
+            say_field(rt, reader::cursor::field_at(s, x.a, width(x.b % 4)));
         }
     }
 }

@@ -5,53 +5,54 @@ use model::byte::wide;
 use terms::{Interned, Node, Start};
 
 // The memory's words and its period come before the script.
-pub(crate) fn called(x: Args, s: &[u8]) {
+pub(crate) fn called(rt: &impl Print, x: Args, s: &[u8]) {
     let n = x.a;
     let k = x.b;
     if n > 33000 {
-        refused();
+        refused(rt);
         return;
     }
     if k > s.len() / 4 {
-        refused();
+        refused(rt);
         return;
     }
     let mut memory = [0u32; 33000];
     fill(&mut memory, &s[0..4 * k], x.c);
-    lent(&mut memory, n, &s[4 * k..]);
+    lent(rt, &mut memory, n, &s[4 * k..]);
 }
 
-fn lent(memory: &mut [u32], n: usize, script: &[u8]) {
+fn lent(rt: &impl Print, memory: &mut [u32], n: usize, script: &[u8]) {
     if n <= memory.len() {
-        run(&mut memory[0..n], script);
+        run(rt, &mut memory[0..n], script);
     }
 }
 
-fn run(memory: &mut [u32], script: &[u8]) {
-    steps(memory, script);
-    say_sum(memory);
+fn run(rt: &impl Print, memory: &mut [u32], script: &[u8]) {
+    steps(rt, memory, script);
+    say_sum(rt, memory);
 }
 
 // Each step has 29 bytes; the count goes from step to step.
-fn steps(memory: &mut [u32], script: &[u8]) {
+fn steps(rt: &impl Print, memory: &mut [u32], script: &[u8]) {
     let mut count: u32 = 0;
-    let mut at: usize = 0;
-    while at < script.len() {
-        count = step(memory, count, &script[at..]);
-        at += 29;
+    for s in script.chunks(29) {
+        count = step(rt, memory, count, s);
     }
 }
 
-fn step(memory: &mut [u32], count: u32, s: &[u8]) -> u32 {
+fn step(rt: &impl Print, memory: &mut [u32], count: u32, s: &[u8]) -> u32 {
     let code = code_of(s);
     if code == 0 {
         model::memory::clear(memory);
         return 0;
     }
     if code < 5 {
-        return adding(memory, code, count, s);
+        return adding(rt, memory, code, count, s);
     }
-    say_start(terms::is_start(memory, word_at(s, 1), word_at(s, 5), word_at(s, 9)));
+    say_start(
+        rt,
+        terms::is_start(memory, word_at(s, 1), word_at(s, 5), word_at(s, 9)),
+    );
     count
 }
 
@@ -60,12 +61,12 @@ fn code_of(s: &[u8]) -> usize {
 }
 
 // With the count so far, or with any.
-fn adding(memory: &mut [u32], code: usize, count: u32, s: &[u8]) -> u32 {
+fn adding(rt: &impl Print, memory: &mut [u32], code: usize, count: u32, s: &[u8]) -> u32 {
     match code {
-        1 => interned(memory, count, s),
-        2 => interned(memory, word_at(s, 1), s),
-        3 => put(memory, count, s),
-        _ => put(memory, word_at(s, 1), s),
+        1 => interned(rt, memory, count, s),
+        2 => interned(rt, memory, word_at(s, 1), s),
+        3 => put(rt, memory, count, s),
+        _ => put(rt, memory, word_at(s, 1), s),
     }
 }
 
@@ -80,27 +81,27 @@ fn node_of(s: &[u8]) -> Node {
     }
 }
 
-fn interned(memory: &mut [u32], count: u32, s: &[u8]) -> u32 {
+fn interned(rt: &impl Print, memory: &mut [u32], count: u32, s: &[u8]) -> u32 {
     match terms::intern(memory, count, node_of(s)) {
         Interned::At(k) => {
-            say(1);
-            say_word(k.count);
-            say_word(k.id);
+            say(rt, 1);
+            say_word(rt, k.count);
+            say_word(rt, k.id);
             k.count
         }
-        Interned::Full => no(24, count),
-        Interned::Short => no(25, count),
+        Interned::Full => no(rt, 24, count),
+        Interned::Short => no(rt, 25, count),
     }
 }
 
 // A question's number; the count stays.
-fn no(question: usize, count: u32) -> u32 {
-    say(0);
-    say(question);
+fn no(rt: &impl Print, question: usize, count: u32) -> u32 {
+    say(rt, 0);
+    say(rt, question);
     count
 }
 
-fn put(memory: &mut [u32], count: u32, s: &[u8]) -> u32 {
+fn put(rt: &impl Print, memory: &mut [u32], count: u32, s: &[u8]) -> u32 {
     let ids = [
         word_at(s, 13),
         word_at(s, 17),
@@ -108,23 +109,23 @@ fn put(memory: &mut [u32], count: u32, s: &[u8]) -> u32 {
         word_at(s, 25),
     ];
     let kept = terms::put(memory, count, word_at(s, 5), word_at(s, 9), ids);
-    say_word(kept.count);
-    say_word(kept.id);
+    say_word(rt, kept.count);
+    say_word(rt, kept.id);
     kept.count
 }
 
-fn say_start(start: Start) {
+fn say_start(rt: &impl Print, start: Start) {
     match start {
         Start::Yes => {
-            say(1);
-            say(1);
+            say(rt, 1);
+            say(rt, 1);
         }
         Start::No => {
-            say(1);
-            say(0);
+            say(rt, 1);
+            say(rt, 0);
         }
         Start::Short => {
-            no(25, 0);
+            no(rt, 25, 0);
         }
     }
 }

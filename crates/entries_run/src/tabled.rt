@@ -10,46 +10,44 @@ pub(crate) fn fill(tables: &mut FlatTables, s: &[u8]) {
     }
 }
 
-pub(crate) fn called(entry: usize, x: Args, tables: &FlatTables) {
+pub(crate) fn called(rt: &impl Print, entry: usize, x: Args, tables: &FlatTables) {
     match entry {
         10 => {
-            say(reader::tables::operator_count(tables));
+            say(rt, reader::tables::operator_count(tables));
         }
         11 => {
-            say(reader::tables::array_count(tables));
+            say(rt, reader::tables::array_count(tables));
         }
         12 => {
-            say(reader::tables::arity_of(tables, x.a));
+            say(rt, reader::tables::arity_of(tables, x.a));
         }
         13 => {
-            say(reader::tables::role_of(tables, x.a));
+            say(rt, reader::tables::role_of(tables, x.a));
         }
         14 => {
-            say(reader::tables::dimensions_of(tables, x.a));
+            say(rt, reader::tables::dimensions_of(tables, x.a));
         }
         15 => {
-            say(reader::tables::extent_of(tables, x.a, x.b));
+            say(rt, reader::tables::extent_of(tables, x.a, x.b));
         }
         16 => {
-            say(reader::tables::base_of(tables, x.a));
+            say(rt, reader::tables::base_of(tables, x.a));
         }
         _ => {
-            say_tables(packed(tables));
+            say_tables(rt, packed(tables));
         }
     }
 }
 
 // Every number of them, as `flat` puts them in a row.
-pub(crate) fn say_tables(tables: Tables) {
+pub(crate) fn say_tables(rt: &impl Print, tables: Tables) {
     let row = reader::tables::flat(tables);
-    say_row(&row);
+    say_row(rt, &row);
 }
 
-fn say_row(row: &FlatTables) {
-    let mut k: usize = 0;
-    while k < FLAT {
-        say(row[k]);
-        k += 1;
+fn say_row(rt: &impl Print, row: &FlatTables) {
+    for k in 0..FLAT {
+        say(rt, row[k]);
     }
 }
 

@@ -7,17 +7,17 @@ use comparer::reply::{Reply, Side};
 use writer::Written;
 
 // The list's words and its period come before what the output holds.
-pub(crate) fn called(x: Args, s: &[u8]) {
+pub(crate) fn called(rt: &impl Print, x: Args, s: &[u8]) {
     let k = x.b;
     if k > s.len() / 4 {
-        refused();
+        refused(rt);
         return;
     }
     let mut list = [0u32; 33000];
     let mut out = [0u8; 20000];
     fill(&mut list, &s[0..4 * k], x.c);
     hold(&mut out, &s[4 * k..]);
-    lent(&list, x.a, &mut out, x.d);
+    lent(rt, &list, x.a, &mut out, x.d);
 }
 
 // The bytes of `s`, and 0 where it has fewer.
@@ -34,21 +34,21 @@ fn stored(s: &[u8], i: usize) -> u8 {
 }
 
 // So many words and bytes.
-fn lent(list: &[u32], n: usize, out: &mut [u8], m: usize) {
+fn lent(rt: &impl Print, list: &[u32], n: usize, out: &mut [u8], m: usize) {
     if n > list.len() {
-        refused();
+        refused(rt);
         return;
     }
     if m > out.len() {
-        refused();
+        refused(rt);
         return;
     }
-    written(&list[0..n], &mut out[0..m]);
+    written(rt, &list[0..n], &mut out[0..m]);
 }
 
-fn written(list: &[u32], out: &mut [u8]) {
-    say_reply(reply_of(writer::write_file(list, out)));
-    say_byte_sum(out);
+fn written(rt: &impl Print, list: &[u32], out: &mut [u8]) {
+    say_reply(rt, reply_of(writer::write_file(list, out)));
+    say_byte_sum(rt, out);
 }
 
 // The file's length takes the place of the number compared.

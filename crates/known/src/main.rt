@@ -5,21 +5,21 @@
 mod rows;
 mod unrolled;
 
-fn main() {
-    rows::accepted();
-    rows::refused();
-    rows::cut_and_longer();
-    rows::marks();
-    rows::operators();
-    rows::roles();
-    rows::dimensions();
-    rows::sizes();
-    rows::nesting();
-    rows::targets();
-    rows::loops_and_guards();
-    rows::nodes();
-    rows::operators_deep();
-    rows::ends();
-    rows::lengths();
-    unrolled::jacobi();
+fn main(rt: HostRuntime) {
+    rows::accepted(&rt);
+    rows::refused(&rt);
+    rows::cut_and_longer(&rt);
+    rows::marks(&rt);
+    rows::operators(&rt);
+    rows::roles(&rt);
+    rows::dimensions(&rt);
+    rows::sizes(&rt);
+    rows::nesting(&rt);
+    rows::targets(&rt);
+    rows::loops_and_guards(&rt);
+    rows::nodes(&rt);
+    rows::operators_deep(&rt);
+    rows::ends(&rt);
+    rows::lengths(&rt);
+    unrolled::jacobi(&rt);
 }

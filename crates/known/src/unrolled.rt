@@ -4,19 +4,15 @@ ghost use Rattle.std.specs.Prelude.{◌≤◌};
 use model::sizes::{HEADER_WORDS, LIST_WORDS};
 use unroller::Unrolled;
 
-fn case(name: &[u8], program: &[u8]) {
+fn case(rt: &impl Print, name: &str, program: &[u8]) {
     let mut list = [0u32; LIST_WORDS];
-    io::write_all(1, name);
     match unroller::unroll(program, &mut list) {
-        Unrolled::Updates(n) => {
-            io::write_all(1, b" updates ");
-            io::print_decimal(1, n as u64);
-            io::write_all(1, b" nodes ");
-            io::print_decimal(1, nodes(&list) as u64);
-            io::write_all(1, b"\n");
+        Unrolled::Updates(updates) => {
+            let nodes = nodes(&list);
+            let _ = println!(rt; "{name} updates {updates} nodes {nodes}");
         }
         _ => {
-            io::write_all(1, b" refused\n");
+            let _ = println!(rt; "{name} refused");
         }
     }
 }
@@ -38,9 +34,10 @@ fn nodes(list: &[u32]) -> usize {
     n
 }
 
-pub(crate) fn jacobi() {
+pub(crate) fn jacobi(rt: &impl Print) {
     case(
-        b"Jacobi",
+        rt,
+        "Jacobi",
         b"ALP\x01\x00\x02\x02\x02\x02\x02\x01\x10\x00\x01\x01\x10\x00\x02\x00\x00\x01\x00\x01\x00\x02\x01\x00\x00\x0e\x00\x00\x01\x00\x01\x01\x00\x00\x00\x01\x11\x01\x135\x82\x00\x00\x11\x00\x11\x00\x10\x00\xff\xff\x00\x01\x10\x00\x00\x00\x00\x01\x10\x00\x01\x00\x00\x01\x00\x02\x01\x00\x00\x0e\x00\x00\x01\x00\x01\x00\x00\x00\x00\x01\x10\x01\x00\x00\x00\x01\x00\x00\x00",
     );
 }

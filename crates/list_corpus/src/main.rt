@@ -1,44 +1,45 @@
 // Reads a stream of list pairs (separate/README.md, "Streams") from standard input and prints the line of each.
 #![tactic(auto)]
 
-ghost use Rattle.std.specs.Prelude.{◌≤◌};
+ghost use Rattle.std.specs.Prelude.{◌≤◌, length};
 
 use model::numbers::wide;
 use model::sizes::{CELL_WORDS, TERM_WORDS};
+use source::Got;
+use std::io::Read;
 
-fn main() {
-    let mut turns: u32 = 0;
-    while turns < 100000000 {
-        turns += 1;
-        if !next() {
+fn main(rt: HostRuntime) {
+    let mut stdin = rt.stdin();
+    for _turn in 0..100000000u32 {
+        if !next(&rt, &mut stdin) {
             return;
         }
     }
 }
 
 // The next pair, if there is one: a mask of two bytes, then the two lists.
-fn next() -> bool {
+fn next(rt: &impl Print, input: &mut impl Read) -> bool {
     let mut left = [0u32; 65536];
     let mut right = [0u32; 65536];
     let mut mask = [0u8; 2];
-    if io::read_full(0, &mut mask) < 2 {
+    if read_full(input, &mut mask) < 2 {
         return false;
     }
-    let one = take(&mut left);
-    let other = take(&mut right);
-    answer(&left, one, &right, other, pair(mask[0], mask[1]));
+    let one = take(input, &mut left);
+    let other = take(input, &mut right);
+    answer(rt, &left, one, &right, other, pair(mask[0], mask[1]));
     true
 }
 
 // A list: the length of its slice, the number of words that are stored, and these words.
-fn take(list: &mut [u32]) -> usize {
-    let n = length();
-    let stored = length();
+fn take(input: &mut impl Read, list: &mut [u32]) -> usize {
+    let n = length(input);
+    let stored = length(input);
     let mut bytes = [0u8; 262144];
     if stored > 65536 {
         return 0;
     }
-    let got = io::read_full(0, &mut bytes[0..4 * stored]);
+    let _got = read_full(input, &mut bytes[0..4 * stored]);
     fill(list, &bytes, stored);
     n
 }
@@ -71,7 +72,7 @@ fn pair(a: u8, b: u8) -> u16 {
     a as u16 + 256 * (b as u16)
 }
 
-fn answer(left: &[u32], one: usize, right: &[u32], other: usize, mask: u16) {
+fn answer(rt: &impl Print, left: &[u32], one: usize, right: &[u32], other: usize, mask: u16) {
     if one > left.len() {
         return;
     }
@@ -89,20 +90,30 @@ fn answer(left: &[u32], one: usize, right: &[u32], other: usize, mask: u16) {
     );
     let line = comparer::line_of(reply);
     let bytes = line.bytes;
-    print(&bytes, line.len);
+    print(rt, &bytes, line.len);
 }
 
 // At the end of the stream 0.
-fn length() -> usize {
+fn length(input: &mut impl Read) -> usize {
     let mut head = [0u8; 4];
-    if io::read_full(0, &mut head) < 4 {
+    if read_full(input, &mut head) < 4 {
         return 0;
     }
     wide(quad(head[0], head[1], head[2], head[3]))
 }
 
-fn print(bytes: &[u8], n: usize) {
+// How many bytes were put at the start of buf, also where a read failed behind them.
+fn read_full(input: &mut impl Read, buf: &mut [u8]) -> usize
+    ensures { result ≤ length buf.old }
+{
+    match source::fill(input, buf) {
+        Got::Bytes(n) => n,
+        Got::Failed(n) => n,
+    }
+}
+
+fn print(rt: &impl Print, bytes: &[u8], n: usize) {
     if n <= bytes.len() {
-        io::write_all(1, &bytes[0..n]);
+        let _ = rt.write_all(&bytes[0..n]);
     }
 }

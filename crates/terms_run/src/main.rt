@@ -1,7 +1,6 @@
 // Fills the store, asks for every term again, asks for one more; with names in a row, then with names that all fall into one bucket.
 #![tactic(auto)]
 
-use libc::STDOUT_FILENO;
 use model::sizes::{MOST_TERMS, TERM_WORDS};
 use terms::{Interned, Node, Start};
 
@@ -10,15 +9,8 @@ const CROWDED: u32 = 1537457537;
 
 const CROWDED_FIRST: u32 = 4294967277;
 
-fn wide(x: u32) -> u64 {
-    x as u64
-}
-
-fn say(what: &[u8], n: u32) {
-    io::write_all(STDOUT_FILENO, what);
-    io::write_all(STDOUT_FILENO, b" ");
-    io::print_decimal(STDOUT_FILENO, wide(n));
-    io::write_all(STDOUT_FILENO, b"\n");
+fn say(rt: &impl Print, what: &str, n: u32) {
+    let _ = println!(rt; "{what} {n}");
 }
 
 fn constant(name: u32) -> Node {
@@ -32,23 +24,23 @@ fn constant(name: u32) -> Node {
     }
 }
 
-fn tell(interned: Interned) {
+fn tell(rt: &impl Print, interned: Interned) {
     match interned {
         Interned::At(k) => {
-            say(b"id", k.id);
-            say(b"of", k.count);
+            say(rt, "id", k.id);
+            say(rt, "of", k.count);
         }
         Interned::Full => {
-            say(b"refused", 24);
+            say(rt, "refused", 24);
         }
         Interned::Short => {
-            say(b"refused", 25);
+            say(rt, "refused", 25);
         }
     }
 }
 
-fn ask(memory: &mut [u32], count: u32, name: u32) {
-    tell(terms::intern(memory, count, constant(name)));
+fn ask(rt: &impl Print, memory: &mut [u32], count: u32, name: u32) {
+    tell(rt, terms::intern(memory, count, constant(name)));
 }
 
 // 4,096 names, from `first` on and `step` apart; the number of terms then.
@@ -77,35 +69,35 @@ fn found(memory: &mut [u32], count: u32, first: u32, step: u32) -> u32 {
     right
 }
 
-fn full(memory: &mut [u32], first: u32, step: u32, next: u32) {
+fn full(rt: &impl Print, memory: &mut [u32], first: u32, step: u32, next: u32) {
     model::memory::clear(memory);
     let count = fill(memory, first, step);
-    say(b"stored", count);
-    say(b"found", found(memory, count, first, step));
-    ask(memory, count, next);
-    say(b"still found", found(memory, count, first, step));
+    say(rt, "stored", count);
+    say(rt, "found", found(memory, count, first, step));
+    ask(rt, memory, count, next);
+    say(rt, "still found", found(memory, count, first, step));
 }
 
-fn ask_start(memory: &[u32], r: u32, a: u32, c: u32) {
+fn ask_start(rt: &impl Print, memory: &[u32], r: u32, a: u32, c: u32) {
     match terms::is_start(memory, r, a, c) {
         Start::Yes => {
-            say(b"starts", r);
+            say(rt, "starts", r);
         }
         Start::No => {
-            say(b"starts not", r);
+            say(rt, "starts not", r);
         }
         Start::Short => {
-            say(b"refused", 25);
+            say(rt, "refused", 25);
         }
     }
 }
 
-fn ask_put(memory: &mut [u32], count: u32, name: u32) {
+fn ask_put(rt: &impl Print, memory: &mut [u32], count: u32, name: u32) {
     let kept = terms::put(memory, count, 19, name, [0; 4]);
     if kept.count > MOST_TERMS {
-        say(b"refused", kept.id);
+        say(rt, "refused", kept.id);
     } else {
-        say(b"id", kept.id);
+        say(rt, "id", kept.id);
     }
 }
 
@@ -125,30 +117,30 @@ fn operators(memory: &mut [u32]) -> u32 {
     g.count
 }
 
-fn small(memory: &mut [u32]) {
+fn small(rt: &impl Print, memory: &mut [u32]) {
     let count = operators(memory);
     let again = terms::put(memory, count, 17, 0, [1, 2, 0, 0]);
-    say(b"terms", again.count);
-    say(b"again", again.id);
-    ask_start(memory, 2, 3, 8);
-    ask_start(memory, 2, 3, 7);
+    say(rt, "terms", again.count);
+    say(rt, "again", again.id);
+    ask_start(rt, memory, 2, 3, 8);
+    ask_start(rt, memory, 2, 3, 7);
 }
 
-fn short(memory: &mut [u32]) {
-    ask(memory, 0, 0);
-    ask_put(memory, 0, 0);
-    ask_start(memory, 1, 0, 0);
+fn short(rt: &impl Print, memory: &mut [u32]) {
+    ask(rt, memory, 0, 0);
+    ask_put(rt, memory, 0, 0);
+    ask_start(rt, memory, 1, 0, 0);
 }
 
 // Too little memory; more terms than a store holds; chains that go round.
-fn main() {
+fn main(rt: HostRuntime) {
     let mut few = [0u32; 8];
     let mut memory = [9u32; TERM_WORDS];
-    short(&mut few);
-    ask(&mut memory, 4097, 0);
-    ask_put(&mut memory, 4097, 0);
-    ask(&mut memory, 20, 0);
-    full(&mut memory, 0, 1, 4096);
-    full(&mut memory, CROWDED_FIRST, CROWDED, 4096);
-    small(&mut memory);
+    short(&rt, &mut few);
+    ask(&rt, &mut memory, 4097, 0);
+    ask_put(&rt, &mut memory, 4097, 0);
+    ask(&rt, &mut memory, 20, 0);
+    full(&rt, &mut memory, 0, 1, 4096);
+    full(&rt, &mut memory, CROWDED_FIRST, CROWDED, 4096);
+    small(&rt, &mut memory);
 }
