@@ -1,0 +1,136 @@
+"""checks: a crate is checked in a copy of the repository with some of its lines changed, and what the prover says is taken apart.
+
+Goals and facts are named after the source: `if byte < 5` gives a goal `returns-then-byte-lt5` and a fact `if-byte-lt5`. So a changed
+test changes names, and the answers that cite them fit no more, whatever the test says. Here they are given the new name, where one
+exchange of words of the old line for words of the new one leads from each name that is missing to one that there is now.
+"""
+import re
+import subprocess
+from collections import namedtuple
+
+FUNCTION = re.compile(r'^( *)(?:pub(?:\(crate\))? )?(?:(?:const|unsafe|extern "C") )*fn (\w+)', re.M)
+CYCLE = re.compile(r'#\[cycle\((\w+)\)\]\n$')
+IMPL = re.compile(r'^impl(?:<[^>]*>)? (?:[\w:]+ for )?(\w+)', re.M)
+
+ERROR = re.compile(r'^(?:\./)?((?:src|specs|proofs)/\S+?):(\d+):\d+: error: ((?:`([^`\n]*)`: )?.*(?:\n[ \t].*)*)', re.M)
+OPEN = re.compile(r'^note: (?:\./)?(src/\S+?):(\d+):\d+: (it is not proved that .*\(`([^`\n]*)`\).*)', re.M)
+FOLLOWS = re.compile(r'.*(?:depends? on .* (?:was|were) not checked|is not admitted: rejected)')
+NO_GOAL = re.compile(r'module `[^`]*\.Goals` has no `([^`]*)` that can be named from here')
+NO_FACT = re.compile(r'record `[^`]*` has no field `([^`]*)`(.*(?:\n.*)?)')
+
+# Lines of a file of a crate: `old` stands at the place `at`, how often in all is `count`.
+Change = namedtuple('Change', 'file old new at count')
+
+# A function: its name, its text, its first and last line, and the folder of its proof, which those that call each other by turns share.
+Function = namedtuple('Function', 'name body first last folder cycle')
+
+# What the prover refuses, or a goal that it leaves open: where, of which declaration or goal, and in what words.
+Error = namedtuple('Error', 'file line words label is_goal')
+
+
+def change_of(crate, file, old, new):
+    """The change, with the place of `old` in this crate's file."""
+    path = crate / file
+    text = path.read_text() if path.is_file() else ''
+    return Change(file, old, new, text.find(old), text.count(old))
+
+
+def changed(text, change):
+    return text[:change.at] + change.new + text[change.at + len(change.old):]
+
+
+def line_at(text, at):
+    return text[text.rfind('\n', 0, at) + 1:].split('\n', 1)[0]
+
+
+def function_at(file, text, at):
+    """The function that this place of a file of src/ is in, or None."""
+    own = [m for m in FUNCTION.finditer(text) if m.start() <= at][-1:]
+    end = own and re.compile(rf'^{own[0].group(1)}\}}', re.M).search(text, own[0].end())
+    if not end or end.end() < at:
+        return None
+    start, (indent, name) = own[0].start(), own[0].groups()
+    cycle = CYCLE.search(text[:start])
+    owner = IMPL.findall(text[:start])[-1:] if indent else []
+    modules = [part for part in file[len('src/'):-len('.rt')].split('/') if part not in ('lib', 'main')]
+    folder = '/'.join(['proofs', *modules, *owner, '+' + cycle.group(1) if cycle else name])
+    lines = text.count('\n', 0, start) + 1, text.count('\n', 0, end.start()) + 1
+    return Function(name, text[own[0].end():end.start()], *lines, folder, bool(cycle))
+
+
+def is_proved(status, said):
+    return status == 0 and 'logic=proved' in said
+
+
+def errors_of(said):
+    """Without those that only follow from another."""
+    errors = [(m, False) for m in ERROR.finditer(said) if not FOLLOWS.match(m.group(3))]
+    goals = [(m, True) for m in OPEN.finditer(said)]
+    return [Error(m.group(1), int(m.group(2)), m.group(3), m.group(4) or '', is_goal) for m, is_goal in errors + goals]
+
+
+def own_errors(function, file, errors):
+    """Those of the function of this file: of its proof, or at its lines."""
+    def is_own(error):
+        if error.file == file:
+            return function.first <= error.line <= function.last
+        shared = function.cycle and not error.label.startswith(f'{function.name}-')
+        return error.file.startswith(f'{function.folder}/') and not shared
+    return [error for error in errors if is_own(error)]
+
+
+def missing(error):
+    """The name of a goal or of a fact that a proof cites and that is not there, or None."""
+    found = NO_GOAL.search(error.words) or NO_FACT.search(error.words)
+    return found and found.group(1)
+
+
+def names_for(error, said):
+    """The names that there are in place of the one that is missing."""
+    goal = NO_GOAL.search(error.words)
+    if not goal:
+        return re.findall(r'[`.]([\w-]+)', NO_FACT.search(error.words).group(2))
+    asked = re.findall(rf'^help: `Goals` has no .*`{re.escape(goal.group(1))}`.*; rattle asks for ([^;\n]*)', said, re.M)
+    return re.findall(r'`([\w-]+)`', ' '.join(asked))
+
+
+def words_of(line):
+    """The names and numbers of a line, as they stand in the name of a goal."""
+    found = set(re.findall(r'[A-Za-z_]\w*', line))
+    return found | {str(int(n.replace('_', ''), 0)) for n in re.findall(r'(?<!\w)(?:0x[\da-fA-F_]+|\d[\d_]*)', line)}
+
+
+def is_of(name, words):
+    """Whether this part of a name says no more than the words: a number stands behind what it is compared by."""
+    parts = [re.sub(r'^(?:eq|ne|lt|le|gt|ge)(?=\d|true$|false$)', '', part) for part in name.split('-')]
+    return all(part in words or part in ('eq', 'ne', 'lt', 'le', 'gt', 'ge') for part in parts)
+
+
+def exchange(gone, name):
+    """What is exchanged in the one name, and for what: the test behind the last `if`, `then` or `else` that they share, or all."""
+    old, new = gone.split('-'), name.split('-')
+    shared = next((k for k, (a, b) in enumerate(zip(old, new)) if a != b), min(len(old), len(new)))
+    test = max([k + 1 for k in range(shared) if old[k] in ('if', 'then', 'else')], default=0)
+    return '-'.join(old[test:]), '-'.join(new[test:]), test > 0
+
+
+def renaming(errors, said, proof, old_line, new_line):
+    """The one exchange that leads from each missing name to one that the proof does not have, or None."""
+    common = None
+    for error in errors:
+        gone = missing(error)
+        if gone is None:
+            continue
+        names = [name for name in names_for(error, said) if not re.search(rf'(?<![\w-]){re.escape(name)}(?![\w-])', proof)]
+        found = [exchange(gone, name) for name in names]
+        found = [x for x in found if x[0] and x[1] and (x[2] or x[0].split('-')[0] == x[1].split('-')[0])]
+        found = [x for x in found if is_of(x[0] if x[2] else x[0].split('-', 1)[-1], words_of(old_line))
+                 and is_of(x[1] if x[2] else x[1].split('-', 1)[-1], words_of(new_line))]
+        common = [x for x in found if common is None or x in common]
+    return common[0] if common else None
+
+
+def renamed(proof, old, new, is_test):
+    if is_test:
+        return re.sub(rf'(?i)(?<![\w])(if|then|else)-{re.escape(old)}(?!\w)', rf'\1-{new}', proof)
+    return re.sub(rf'(?<![\w-]){re.escape(old)}(?![\w-])', new, proof)
