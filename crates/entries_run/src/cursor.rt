@@ -1,4 +1,4 @@
-// The methods of `Reader`, on one that stands at any place. Each function has a walk for its proof, so each is thin.
+// The methods of `Reader`, on one that stands at any place.
 ghost use Rattle.std.specs.Prelude.{◌≡◌, ◌-◌, length};
 ghost use Rattle.reader.specs.Field.{i16};
 ghost use Rattle.reader.specs.Answers.{signed_says};

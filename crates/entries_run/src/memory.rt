@@ -3,12 +3,10 @@ use crate::numbers::{say_word, word_at};
 
 // The words of `s`, and from the start again after so many; 0 where `s` has fewer.
 pub(crate) fn fill(memory: &mut [u32], s: &[u8], period: usize) {
-    let mut i: usize = 0;
     let mut j: usize = 0;
-    while i < memory.len() {
-        memory[i] = stored(s, j);
+    for word in memory {
+        *word = stored(s, j);
         j = after(j, period);
-        i += 1;
     }
 }
 

@@ -3,10 +3,8 @@ use crate::numbers::{Args, low_byte, low_pair, number_at, say};
 use reader::tables::{BASES, FLAT, FlatTables, Tables};
 
 pub(crate) fn fill(tables: &mut FlatTables, s: &[u8]) {
-    let mut k: usize = 0;
-    while k < FLAT {
+    for k in 0..FLAT {
         tables[k] = number_at(s, 8 * k);
-        k += 1;
     }
 }
 
@@ -74,30 +72,24 @@ fn bytes(tables: &FlatTables, from: usize) -> [u8; 16] {
     if from > 99 {
         return r;
     }
-    let mut k: usize = 0;
-    while k < 16 {
+    for k in 0..16usize {
         r[k] = low_byte(nth(tables, from + k));
-        k += 1;
     }
     r
 }
 
 fn extents(tables: &FlatTables) -> [u16; 48] {
     let mut r = [0u16; 48];
-    let mut k: usize = 0;
-    while k < 48 {
+    for k in 0..48usize {
         r[k] = low_pair(tables[50 + k]);
-        k += 1;
     }
     r
 }
 
 fn bases(tables: &FlatTables) -> [usize; 17] {
     let mut r = [0usize; 17];
-    let mut k: usize = 0;
-    while k < 17 {
+    for k in 0..17usize {
         r[k] = tables[BASES + k];
-        k += 1;
     }
     r
 }

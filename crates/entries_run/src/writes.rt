@@ -22,10 +22,8 @@ pub(crate) fn called(rt: &impl Print, x: Args, s: &[u8]) {
 
 // The bytes of `s`, and 0 where it has fewer.
 fn hold(out: &mut [u8], s: &[u8]) {
-    let mut i: usize = 0;
-    while i < out.len() {
+    for i in 0..out.len() {
         out[i] = stored(s, i);
-        i += 1;
     }
 }
 

@@ -46,10 +46,8 @@ fn take(input: &mut impl Read, list: &mut [u32]) -> usize {
 
 // The first words of a list, from their bytes.
 fn fill(list: &mut [u32], bytes: &[u8; 262144], stored: usize) {
-    let mut k: usize = 0;
-    while k < stored {
+    for k in 0..stored {
         set(list, k, bytes);
-        k += 1;
     }
 }
 
