@@ -9,6 +9,9 @@ ghost use Rattle.source.specs.Within.{Within};
 use std::io;
 use std::io::{ErrorKind, Read};
 
+#[cfg(test)]
+mod tests;
+
 // So many bytes stand at the start of the slice, fewer than it holds only where the input ended; or a read failed behind so many.
 #[derive(Clone, Copy)]
 pub enum Got {
