@@ -1,4 +1,5 @@
 -- Many pairs: their claims (specs/Claims.antt).
+use Rattle.std.specs.Prelude.{if◌then◌else◌}
 use Prim.Native.Nat.{ℕ, zero, suc, ◌+◌, ◌-◌, ◌*◌, ◌/◌, ◌%◌, ◌≤◌, ◌<◌}
 use native.Mathlib.Omega.{arith}
 use mathlib.Core.Path.{◌≡◌, refl, sym, ap, ap₂, ◌∙◌, subst}
@@ -8,7 +9,7 @@ use lib.ListN.{length, get_or, take, drop, length-append, length-take, length-ma
 use lib.Seq.{take-append_seam, drop-append_seam, drop_at, take-take, take_all, take-nil, drop-nil}
 use lib.Dec.{leb}
 use borrow.Author.Tests.{leb-true, leb-false, le-leb, lt-leb}
-use Rattle.model.specs.Test.{if◌then◌else◌, total}
+use Rattle.model.specs.Test.{total}
 use Rattle.model.specs.Tables.{Array, Tables, cells}
 use Rattle.model.specs.Reply.{Reply, Side, equal, differs, refused, left, right, input, is_refused}
 use Rattle.reader.specs.Field.{little_endian}

@@ -1,4 +1,5 @@
 -- What an explanation says: the claims about it, and known pairs explained.
+use Rattle.std.specs.Prelude.{if◌then◌else◌}
 use Prim.Native.Nat.{ℕ, ◌≤◌}
 use mathlib.Core.Path.{◌≡◌, refl, sym, ap, ◌∙◌, subst}
 use mathlib.Core.Logic.{inl, inr}
@@ -12,7 +13,6 @@ use lib.Dec.{leb}
 use lib.IntN.{pos}
 use borrow.Author.Tests.{le-leb, leb-true}
 use denote.Ref.{Bor}
-use Rattle.model.specs.Test.{if◌then◌else◌}
 use Rattle.model.specs.Update.{Update, Listed, writes, written}
 use Rattle.model.specs.Reply.{Side, left, both, input, Reply, equal, differs, refused, is_refused}
 use Rattle.reader.specs.Field.{little_endian}

@@ -1,4 +1,5 @@
 -- Framed input: what a frame means, demand 2 for it, and that a cut behind byte 32,771 changes no reply.
+use Rattle.std.specs.Prelude.{if◌then◌else◌}
 use Prim.Native.Nat.{ℕ, ◌+◌, ◌*◌, ◌/◌, ◌%◌, ◌≤◌, ◌<◌}
 use native.Mathlib.Omega.{arith}
 use mathlib.Core.Path.{◌≡◌, refl, sym, ap, ◌∙◌, subst}
@@ -8,7 +9,6 @@ use lib.ListN.{length, take, drop, length-append, length-take, length-drop}
 use lib.Seq.{take-append_seam, drop-append_seam, take-take, take_all}
 use lib.Dec.{leb}
 use borrow.Author.Tests.{leb-true, leb-false, le-leb, lt-leb}
-use Rattle.model.specs.Test.{if◌then◌else◌}
 use Rattle.model.specs.Update.{Listed}
 use Rattle.model.specs.Reply.{Reply, equal, refused, left, input, is_refused}
 use Rattle.reader.specs.Field.{little_endian}

@@ -1,4 +1,5 @@
 -- What the entry over lists replies, from what its parts reply.
+use Rattle.std.specs.Prelude.{if◌then◌else◌}
 use Prim.Native.Nat.{ℕ, ◌≤◌, ◌<◌}
 use native.Mathlib.Omega.{arith}
 use mathlib.Core.Path.{◌≡◌, refl, sym, ap, ◌∙◌}
@@ -9,7 +10,6 @@ use mathlib.Core.Option.{some}
 use lib.ListN.{length, replicate, length-replicate}
 use lib.Dec.{leb, eqb}
 use borrow.Author.Tests.{lt-leb, le-leb, leb-true, eqb-true}
-use Rattle.model.specs.Test.{if◌then◌else◌}
 use Rattle.model.specs.Update.{Listed}
 use Rattle.model.specs.Reply as model
 use Rattle.model.specs.Memory.{list_words, cell_words, term_words, cleared, work_left}

@@ -1,4 +1,5 @@
 -- Which numbers a reply can have: those of a program for either side, 22 to 24 of a pair, 1 of framed input and of many pairs.
+use Rattle.std.specs.Prelude.{if◌then◌else◌}
 use Prim.Native.Nat.{ℕ, zero, suc, ◌≤◌}
 use native.Mathlib.Omega.{arith}
 use mathlib.Core.Path.{refl}
@@ -6,7 +7,6 @@ use mathlib.Core.List.{List, [], ◌∷◌}
 use mathlib.Core.Bool.{Bool, true, false, cond}
 use lib.ListN.{length, drop}
 use lib.Dec.{leb, eqb}
-use Rattle.model.specs.Test.{if◌then◌else◌}
 use Rattle.model.specs.Tables.{Array, cells}
 use Rattle.model.specs.Update.{Listed}
 use Rattle.model.specs.Reply as model

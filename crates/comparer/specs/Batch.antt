@@ -1,6 +1,6 @@
 -- Many pairs in one input: the pairs begun, their replies, the totals, and what is printed (docs/FORMAT.md, "Many pairs").
-use Rattle.std.specs.Prelude.{ℕ, zero, suc, ◌+◌, List, [], ◌∷◌, ◌++◌, map, length, take, drop, leb}
-use Rattle.model.specs.Test.{if◌then◌else◌, total}
+use Rattle.std.specs.Prelude.{ℕ, zero, suc, ◌+◌, List, [], ◌∷◌, ◌++◌, map, length, take, drop, leb, if◌then◌else◌}
+use Rattle.model.specs.Test.{total}
 use Rattle.model.specs.Reply.{Reply, Side, equal, differs, refused, left, right, input}
 use Rattle.reader.specs.Field.{little_endian}
 use Rattle.comparer.specs.Entry.{programs_reply, all_bits}

@@ -1,7 +1,6 @@
 -- The replies of the entries: two lists in words, two programs, framed input (docs/QUESTIONS.md, and docs/FORMAT.md, "The program").
-use Rattle.std.specs.Prelude.{ℕ, List, Bool, ◌&&◌, length, take, drop, leb}
+use Rattle.std.specs.Prelude.{ℕ, List, Bool, ◌&&◌, length, take, drop, leb, if◌then◌else◌}
 use Rattle.std.proofs.Math.Option.{Option, none, some}
-use Rattle.model.specs.Test.{if◌then◌else◌}
 use Rattle.model.specs.Update.{Listed}
 use Rattle.model.specs.Reply.{Reply, Side, refused, left, right, both, input}
 use Rattle.model.specs.Memory.{list_words, cell_words, term_words}

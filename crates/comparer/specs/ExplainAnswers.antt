@@ -1,7 +1,6 @@
 -- What the code's explanation says, case by case; and a part of a lent slice, as a reference.
-use Rattle.std.specs.Prelude.{ℕ, ◌+◌, ◌-◌, ◌≡◌, List, Bool, ◌&&◌, length, take, drop, leb}
+use Rattle.std.specs.Prelude.{ℕ, ◌+◌, ◌-◌, ◌≡◌, List, Bool, ◌&&◌, length, take, drop, leb, if◌then◌else◌}
 use Rattle.std.specs.Borrow.{Bor}
-use Rattle.model.specs.Test.{if◌then◌else◌}
 use Rattle.model.specs.Memory.{list_words, work_left}
 use Rattle.model.specs.Reply as model
 use Rattle.unroller.specs.OriginReply as origin

@@ -1,6 +1,5 @@
 -- Lent memory: the length that each slice has at least (question 25, docs/LAYOUT.md), in words of 32 bits.
-use Rattle.std.specs.Prelude.{ℕ, List, Bool, length, replicate}
-use Rattle.model.specs.Test.{if◌then◌else◌}
+use Rattle.std.specs.Prelude.{ℕ, List, Bool, length, replicate, if◌then◌else◌}
 
 abbrev pub list_words : ℕ
 list_words = 32768

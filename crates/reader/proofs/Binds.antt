@@ -1,10 +1,10 @@
 -- Taking a reading apart, field by field.
+use Rattle.std.specs.Prelude.{if◌then◌else◌}
 use mathlib.Core.Path.{◌≡◌, refl, subst}
 use Prim.Native.Nat.{ℕ}
 use native.Mathlib.Omega.{arith}
 use mathlib.Core.List.{List}
 use mathlib.Core.Bool.{Bool, true, false}
-use Rattle.model.specs.Test.{if◌then◌else◌}
 use Rattle.reader.specs.Field.{Outcome, got, no, Reader, and_then, ask}
 
 -- no reading both ends well and stops

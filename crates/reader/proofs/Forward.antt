@@ -1,4 +1,5 @@
 -- Readers move forward, and not past the end: what holds of a value that was got and of the place past it.
+use Rattle.std.specs.Prelude.{if◌then◌else◌}
 use mathlib.Core.Path.{◌≡◌, refl, sym, ap, subst}
 use Prim.Native.Nat.{ℕ, zero, suc, ◌+◌, ◌≤◌, ◌<◌}
 use mathlib.Core.List.{List, [], ◌∷◌}
@@ -8,7 +9,6 @@ use lib.ListN.{length}
 use lib.IntN.{ℤ, pos, negsuc}
 use lib.Dec.{leb, ltb, eqb}
 use borrow.Author.Tests.{leb-true, ltb-true}
-use Rattle.model.specs.Test.{if◌then◌else◌}
 use Rattle.model.specs.Tables.{Tables, array_at, arity_at}
 use Rattle.reader.specs.Field.{Outcome, got, no, Reader, and_then, ask, field, byte, u16, u32, i8, i16, little_endian, times, give, refuse}
 use Rattle.reader.specs.Syntax.{Expr, Exprs, Item, count, counts}

@@ -1,4 +1,5 @@
 -- How many items may follow does not matter, once they reach past the last byte: the bound in `items` cuts no program off.
+use Rattle.std.specs.Prelude.{if◌then◌else◌}
 use mathlib.Core.Path.{◌≡◌, refl, sym}
 use Prim.Native.Nat.{ℕ, zero, suc, ◌+◌, ◌≤◌, ◌<◌}
 use mathlib.Core.List.{List}
@@ -6,7 +7,6 @@ use mathlib.Core.Bool.{Bool, true, false}
 use native.Mathlib.Omega.{arith}
 use lib.ListN.{length, get_or}
 use lib.Dec.{eqb}
-use Rattle.model.specs.Test.{if◌then◌else◌}
 use Rattle.model.specs.Tables.{Tables}
 use Rattle.reader.specs.Field.{Outcome, got, no, Reader, and_then, give}
 use Rattle.reader.specs.Syntax.{Item}

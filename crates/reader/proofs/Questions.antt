@@ -1,4 +1,5 @@
 -- Which numbers a file can be refused with while it is read: 2 to 14.
+use Rattle.std.specs.Prelude.{if◌then◌else◌}
 use Prim.Native.Nat.{ℕ, zero, suc, ◌+◌, ◌≤◌}
 use native.Mathlib.Omega.{arith}
 use mathlib.Core.Path.{◌≡◌, refl, sym, subst}
@@ -7,7 +8,7 @@ use mathlib.Core.Bool.{Bool, true, false, ◌&&◌, ◌||◌, not}
 use lib.ListN.{length}
 use lib.Dec.{leb, ltb, eqb}
 use lib.IntN.{ℤ, pos, negsuc}
-use Rattle.model.specs.Test.{if◌then◌else◌, within}
+use Rattle.model.specs.Test.{within}
 use Rattle.model.specs.Tables.{Tables, cells, array_at, local, operator_in, arity_at}
 use Rattle.reader.specs.Field.{Outcome, got, no, Reader, and_then, ask, field, byte, u16, u32, i8, i16, little_endian, times, give, refuse}
 use Rattle.reader.specs.Syntax.{Expr, Item}

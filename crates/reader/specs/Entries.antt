@@ -1,8 +1,7 @@
 -- What the entries answer beyond the grammar: definitions for every depth and number of loops, and what stands in a result's fields.
-use Rattle.std.specs.Prelude.{ℕ, zero, suc, ◌+◌, ◌-◌, ◌*◌, ◌/◌, ◌%◌, ◌^◌, ◌≤◌, ◌<◌, min, List, [], ◌∷◌, ◌++◌, map, length, get_or, take, replicate, leb, eqb, ℤ, pos, ◌≡◌}
+use Rattle.std.specs.Prelude.{ℕ, zero, suc, ◌+◌, ◌-◌, ◌*◌, ◌/◌, ◌%◌, ◌^◌, ◌≤◌, ◌<◌, min, List, [], ◌∷◌, ◌++◌, map, length, get_or, take, replicate, leb, eqb, ℤ, pos, ◌≡◌, if◌then◌else◌}
 use Rattle.std.specs.Int.{w8}
 use Rattle.std.proofs.Common.{to_z}
-use Rattle.model.specs.Test.{if◌then◌else◌}
 use Rattle.reader.specs.Field.{Outcome, got, no, Reader, ◌>>=◌, give, refuse, times}
 use Rattle.model.specs.Tables.{Array, Tables, cells, arity_at}
 use Rattle.reader.specs.Syntax.{Form, Expr, Items}

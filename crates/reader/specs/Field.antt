@@ -1,8 +1,7 @@
 -- Reading field by field. A reader takes the bytes and a place; it gets a value and the next place, or ends with a question's number and place.
-use Rattle.std.specs.Prelude.{ℕ, zero, suc, ◌+◌, ◌*◌, ◌<◌, List, Bool, true, false, length, get_or, leb, ℤ}
+use Rattle.std.specs.Prelude.{ℕ, zero, suc, ◌+◌, ◌*◌, ◌<◌, List, Bool, true, false, length, get_or, leb, ℤ, if◌then◌else◌}
 use Rattle.std.specs.Int.{w8, w16}
 use Rattle.std.proofs.Common.{to_z}
-use Rattle.model.specs.Test.{if◌then◌else◌}
 
 -- bytes, as a slice holds them
 abbrev pub Bytes : List ℕ → Type 0

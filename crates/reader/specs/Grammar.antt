@@ -1,6 +1,6 @@
 -- The grammar of a program file (docs/FORMAT.md, "The file"), with the questions 2 to 14 at their fields.
-use Rattle.std.specs.Prelude.{ℕ, zero, suc, ◌+◌, List, [], ◌∷◌, Bool, true, false, ◌&&◌, ◌||◌, not, length, ltb, leb, eqb, ℤ, pos, negsuc}
-use Rattle.model.specs.Test.{if◌then◌else◌, within}
+use Rattle.std.specs.Prelude.{ℕ, zero, suc, ◌+◌, List, [], ◌∷◌, Bool, true, false, ◌&&◌, ◌||◌, not, length, ltb, leb, eqb, ℤ, pos, negsuc, if◌then◌else◌}
+use Rattle.model.specs.Test.{within}
 use Rattle.model.specs.Tables.{Array, Tables, cells, array_at, local, operator_in, arity_at}
 use Rattle.reader.specs.Field.{Outcome, got, no, Reader, ◌>>=◌, give, refuse, here, ask, little_endian, field, byte, u16, u32, i8, i16, times}
 use Rattle.reader.specs.Syntax.{Form, Expr, Item, Items, Program}

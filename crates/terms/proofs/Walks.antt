@@ -1,8 +1,8 @@
 -- What one look at a chain says: at its end, above the top, and at an id.
+use Rattle.std.specs.Prelude.{if◌then◌else◌}
 use Rattle.std.proofs.Common.{◌≡◌, ℕ, zero, suc, ◌-◌, ◌<◌, ◌≤◌, Bool, true, false, List, sym, refl, ap, ◌∙◌, ⊎_elim, le_of_suc-le-suc, not-suc-le-zero, eq-or-lt_of_le, arith, eq-eqb, ne_eqb}
 use mathlib.Core.Bool.{false≢true}
 use lib.Dec.{eqb-zero-suc}
-use Rattle.model.specs.Test.{if◌then◌else◌}
 use Rattle.terms.specs.declared.Node.{Node}
 use Rattle.terms.specs.declared.Found.TheVariants.{Here, Missing}
 use Rattle.terms.specs.Chain.{look}

@@ -1,6 +1,5 @@
 -- A chain of ids that goes down, over any test of an id and any links. A cursor is 0 at a chain's end, else an id plus 1.
-use Rattle.std.specs.Prelude.{ℕ, zero, suc, Bool, ◌==◌}
-use Rattle.model.specs.Test.{if◌then◌else◌}
+use Rattle.std.specs.Prelude.{ℕ, zero, suc, Bool, ◌==◌, if◌then◌else◌}
 use Rattle.terms.specs.declared.Found.{Found}
 use Rattle.terms.specs.declared.Found.TheVariants.{Here, Missing}
 

@@ -1,7 +1,6 @@
 -- What it is that memory holds a list of nodes.
 -- An equation for each word of the chains: a link, and a head, is the cursor of the last earlier id of the same bucket.
-use Rattle.std.specs.Prelude.{◌≡◌, ℕ, zero, suc, ◌<◌, ◌≤◌, Bool, List, [], length, ◌==◌, ◌≢◌, slice_index_or}
-use Rattle.model.specs.Test.{if◌then◌else◌}
+use Rattle.std.specs.Prelude.{◌≡◌, ℕ, zero, suc, ◌<◌, ◌≤◌, Bool, List, [], length, ◌==◌, ◌≢◌, slice_index_or, if◌then◌else◌}
 use Rattle.model.specs.Memory.{term_words}
 use Rattle.terms.specs.declared.Node.{Node}
 use Rattle.terms.specs.declared.Found.{Found}

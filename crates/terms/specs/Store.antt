@@ -1,7 +1,6 @@
 -- What each entry of the store does, on lists, for every input. The layout is that of docs/LAYOUT.md, "Terms".
-use Rattle.std.specs.Prelude.{ℕ, ◌+◌, ◌-◌, ◌*◌, Bool, true, false, ◌&&◌, List, [], ◌∷◌, length, ◌==◌, nat_le, nat_lt, slice_index, slice_set}
+use Rattle.std.specs.Prelude.{ℕ, ◌+◌, ◌-◌, ◌*◌, Bool, true, false, ◌&&◌, List, [], ◌∷◌, length, ◌==◌, nat_le, nat_lt, slice_index, slice_set, if◌then◌else◌}
 use Rattle.std.proofs.lemmas.List.Edits.{sets}
-use Rattle.model.specs.Test.{if◌then◌else◌}
 use Rattle.model.specs.Memory.{term_words}
 use Rattle.terms.specs.declared.Node.{Node}
 use Rattle.terms.specs.declared.Kept.{Kept}

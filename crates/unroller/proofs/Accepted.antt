@@ -1,4 +1,5 @@
 -- Every list that a program unrolls to is allowed, so its layout is accepted.
+use Rattle.std.specs.Prelude.{if◌then◌else◌}
 use Prim.Native.Nat.{ℕ, zero, suc, ◌+◌, ◌*◌, ◌≤◌, ◌<◌}
 use native.Mathlib.Omega.{arith}
 use native.Mathlib.Nat.{mul-le-mul_right, add-mul, mul_assoc}
@@ -10,7 +11,7 @@ use lib.Dec.{leb, ltb, eqb}
 use lib.IntN.{ℤ, pos, negsuc}
 use lib.Signed.{le_z}
 use borrow.Author.Tests.{leb-true, ltb-true, le-leb, lt-ltb}
-use Rattle.model.specs.Test.{if◌then◌else◌, within, every}
+use Rattle.model.specs.Test.{within, every}
 use Rattle.model.specs.Tables.{Array, Tables, cells, array_at, local, inside, operator_in, operator_byte, arity_at}
 use Rattle.model.specs.Update.{Tree, Trees, Update, Listed, size, sizes, nodes}
 use Rattle.model.specs.Update.Tree.{cell, number, constant, operator}

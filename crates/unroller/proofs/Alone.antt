@@ -1,4 +1,5 @@
 -- A statement reads the same from its stretch of the bytes alone: what a reader gets does not depend on bytes that it does not pass.
+use Rattle.std.specs.Prelude.{if◌then◌else◌}
 use mathlib.Core.Path.{◌≡◌, refl, ap, ◌∙◌, subst}
 use Prim.Native.Nat.{ℕ, zero, suc, ◌+◌, ◌-◌, ◌≤◌, ◌<◌}
 use native.Mathlib.Omega.{arith}
@@ -7,7 +8,6 @@ use mathlib.Core.Bool.{Bool, true, false, not}
 use lib.ListN.{length, get_or}
 use lib.Dec.{leb, ltb, eqb}
 use borrow.Author.Tests.{le-leb}
-use Rattle.model.specs.Test.{if◌then◌else◌}
 use Rattle.model.specs.Tables.{Tables, array_at, arity_at}
 use Rattle.reader.specs.Field.{Outcome, got, no, Reader, and_then, ask, refuse, little_endian, field, byte, u16, u32, i8, i16, times}
 use Rattle.reader.specs.Syntax.{Expr}

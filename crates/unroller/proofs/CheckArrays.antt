@@ -1,4 +1,5 @@
 -- The array table: one record, and the state that it fills.
+use Rattle.std.specs.Prelude.{if◌then◌else◌}
 use mathlib.Core.Path.{◌≡◌, refl, sym, ap, ◌∙◌, subst}
 use Prim.Native.Nat.{ℕ, zero, suc, ◌+◌, ◌*◌, ◌<◌, ◌≤◌}
 use mathlib.Core.List.{List, [], ◌∷◌}
@@ -9,7 +10,7 @@ use lib.ListN.{length, get_or, drop, set, length-set}
 use lib.Seq.{get_or-set_same, get_or-set_other}
 use lib.Dec.{eqb, ltb}
 use borrow.Author.Tests.{eqb-true, eqb-false}
-use Rattle.model.specs.Test.{if◌then◌else◌, within}
+use Rattle.model.specs.Test.{within}
 use Rattle.model.specs.Tables.{cells}
 use Rattle.unroller.specs.Words.{got, none, and_then, times, zeros}
 use Rattle.unroller.specs.Decode.{extents, array}

@@ -1,4 +1,5 @@
 -- An expression, node by node, and its arguments as a loop takes them.
+use Rattle.std.specs.Prelude.{if◌then◌else◌}
 use mathlib.Core.Path.{◌≡◌, refl, ap, ◌∙◌, subst}
 use Prim.Native.Nat.{ℕ, zero, suc, ◌+◌, ◌<◌, ◌≤◌}
 use mathlib.Core.List.{List, [], ◌∷◌}
@@ -9,7 +10,6 @@ use lib.Dec.{eqb}
 use borrow.Author.Tests.{lt-ltb, le-ltb, ne_eqb}
 use mir.Syntax.{w32}
 use mir.Val.{to_z}
-use Rattle.model.specs.Test.{if◌then◌else◌}
 use Rattle.model.specs.Tables.{arity_at}
 use Rattle.model.specs.Update.{Tree, size, sizes}
 use Rattle.model.specs.Update.Tree.{cell, number, constant, operator}

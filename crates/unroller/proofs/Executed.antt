@@ -1,5 +1,6 @@
 -- The statements that a program executes make its updates, one for one; each stands in the program's bytes; an element's origin is
 -- that of the last update that writes it.
+use Rattle.std.specs.Prelude.{if◌then◌else◌}
 use Prim.Native.Nat.{ℕ, zero, suc, ◌+◌, ◌-◌, ◌≤◌, ◌<◌}
 use mathlib.Core.Path.{◌≡◌, refl, sym, ap, ◌∙◌, subst}
 use mathlib.Core.Logic.{inl, inr}
@@ -13,7 +14,6 @@ use lib.Seq.{length-take-le, get_or-take, get_or-drop}
 use lib.Dec.{leb, eqb}
 use lib.IntN.{ℤ, pos}
 use lib.Signed.{le_z}
-use Rattle.model.specs.Test.{if◌then◌else◌}
 use Rattle.model.specs.Tables.{Tables, array_at}
 use Rattle.model.specs.Update.{Update, Listed, writes, written}
 use Rattle.reader.specs.Field.{got, refuse}

@@ -1,4 +1,5 @@
 -- Words that lay out a list are its layout, and the list is allowed.
+use Rattle.std.specs.Prelude.{if◌then◌else◌}
 use mathlib.Core.Path.{◌≡◌, refl, sym, ap, ◌∙◌, subst}
 use Prim.Native.Nat.{ℕ, zero, suc, ◌+◌, ◌-◌, ◌*◌, ◌≤◌}
 use mathlib.Core.List.{List, [], ◌∷◌, ◌++◌, append-nil, append_assoc}
@@ -11,7 +12,7 @@ use borrow.Author.Tests.{leb-true, ltb-true, eqb-true}
 use mir.Syntax.{w32}
 use mir.Val.{to_z, Fits as Bits}
 use mir.Facts.{of_z-to_z, sfits_to_z}
-use Rattle.model.specs.Test.{if◌then◌else◌, within, every}
+use Rattle.model.specs.Test.{within, every}
 use Rattle.model.specs.Tables.{Array, Tables, cells, array_at, local, starts, inside, operator_byte, arity_at}
 use Rattle.model.specs.Update.{Tree, Trees, Update, Listed, size, nodes, written}
 use Rattle.model.specs.Update.Tree.{cell, number, constant}

@@ -1,4 +1,5 @@
 -- What holds of every list that a program unrolls to: locals come last, and no unwritten out or local cell is read.
+use Rattle.std.specs.Prelude.{if◌then◌else◌}
 use Prim.Native.Nat.{ℕ, zero, suc, ◌+◌}
 use mathlib.Core.Path.{◌≡◌, refl, sym, ap, ◌∙◌, subst}
 use mathlib.Core.List.{List, [], ◌∷◌, ◌++◌, append_assoc, append-nil}
@@ -8,7 +9,7 @@ use lib.Dec.{leb, eqb}
 use lib.IntN.{ℤ, pos}
 use lib.Signed.{le_z}
 use native.Mathlib.Omega.{arith}
-use Rattle.model.specs.Test.{if◌then◌else◌, within}
+use Rattle.model.specs.Test.{within}
 use Rattle.model.specs.Tables.{Array, Tables, cells, local}
 use Rattle.model.specs.Update.{Update, Listed}
 use Rattle.reader.specs.Field.{Outcome, got, no, byte, times}

@@ -1,4 +1,5 @@
 -- The walk for an element's last writer: a law for each step of the code.
+use Rattle.std.specs.Prelude.{if◌then◌else◌}
 use mathlib.Core.Path.{◌≡◌, refl, sym, ap, ◌∙◌, subst}
 use Prim.Native.Nat.{ℕ, suc, ◌+◌, ◌≤◌, ◌<◌}
 use native.Mathlib.Omega.{arith}
@@ -12,7 +13,6 @@ use lib.Dec.{eqb, leb}
 use lib.IntN.{ℤ, pos}
 use lib.Signed.{le_z, lt_z}
 use borrow.Author.Tests.{ne_eqb, le-leb}
-use Rattle.model.specs.Test.{if◌then◌else◌}
 use Rattle.model.specs.Tables.{Tables}
 use Rattle.reader.specs.Field.{Outcome, got, Reader}
 use Rattle.reader.specs.Syntax.{Form, Expr, Item, Items, count}

@@ -1,4 +1,5 @@
 -- An accepted program, from its tables to its updates in the list.
+use Rattle.std.specs.Prelude.{if◌then◌else◌}
 use mathlib.Core.Path.{◌≡◌, refl, sym, ap, ap₂, ◌∙◌, subst}
 use Prim.Native.Nat.{ℕ, ◌+◌, ◌-◌, ◌≤◌}
 use native.Mathlib.Omega.{arith}
@@ -8,7 +9,6 @@ use lib.ListN.{length, get_or, replicate, length-replicate}
 use lib.Seq.{sets, length-sets}
 use lib.Dec.{leb, eqb}
 use lib.IntN.{pos}
-use Rattle.model.specs.Test.{if◌then◌else◌}
 use Rattle.model.specs.Tables.{Array, Tables, cells}
 use Rattle.model.specs.Memory.{cleared}
 use Rattle.reader.specs.Field.{Outcome, got, no}

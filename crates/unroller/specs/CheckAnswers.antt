@@ -1,6 +1,6 @@
 -- What the code answers of what a reader does at a place of the words.
-use Rattle.std.specs.Prelude.{ℕ, zero, suc, ◌+◌, ◌*◌, ◌≤◌, ◌≡◌, List, [], ◌∷◌, Bool, true, false, drop, take, get_or, set, eqb}
-use Rattle.model.specs.Test.{if◌then◌else◌, within}
+use Rattle.std.specs.Prelude.{ℕ, zero, suc, ◌+◌, ◌*◌, ◌≤◌, ◌≡◌, List, [], ◌∷◌, Bool, true, false, drop, take, get_or, set, eqb, if◌then◌else◌}
+use Rattle.model.specs.Test.{within}
 use Rattle.model.specs.Tables.{cells, Array, Tables}
 use Rattle.model.specs.Update.{Tree, Trees, size, sizes, Update}
 use Rattle.model.specs.Reply.{left, both}

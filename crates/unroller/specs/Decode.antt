@@ -1,10 +1,10 @@
 -- The list that words lay out, if any. Each line is a word, or a part of question 26.
-use Rattle.std.specs.Prelude.{ℕ, zero, suc, ◌+◌, ◌-◌, ◌*◌, List, [], ◌∷◌, ◌++◌, Bool, false, ◌&&◌, ◌||◌, not, length, ltb, leb, eqb}
+use Rattle.std.specs.Prelude.{ℕ, zero, suc, ◌+◌, ◌-◌, ◌*◌, List, [], ◌∷◌, ◌++◌, Bool, false, ◌&&◌, ◌||◌, not, length, ltb, leb, eqb, if◌then◌else◌}
 use Rattle.std.proofs.Math.Option.{Option, some}
 use Rattle.std.proofs.Math.Option.Option.{none as nothing}
 use Rattle.std.specs.Int.{w32}
 use Rattle.std.proofs.Common.{to_z}
-use Rattle.model.specs.Test.{if◌then◌else◌, within}
+use Rattle.model.specs.Test.{within}
 use Rattle.model.specs.Tables.{Array, Tables, cells, array_at, local, starts, inside, operator_byte, arity_at}
 use Rattle.model.specs.Update.{Tree, Update, Listed, size, nodes, written}
 use Rattle.model.specs.Update.Tree.{cell, number, constant, operator}

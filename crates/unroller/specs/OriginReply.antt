@@ -1,7 +1,6 @@
 -- Where an element of one program was written last: the reply, and what the code's answer says.
-use Rattle.std.specs.Prelude.{ℕ, ◌≡◌, List, [], length, leb, ℤ, pos}
+use Rattle.std.specs.Prelude.{ℕ, ◌≡◌, List, [], length, leb, ℤ, pos, if◌then◌else◌}
 use Rattle.std.proofs.Math.Option.{Option, none, some}
-use Rattle.model.specs.Test.{if◌then◌else◌}
 use Rattle.model.specs.Update.{Listed}
 use Rattle.model.specs.Reply.{Side, left, both}
 use Rattle.model.specs.Memory.{list_words}

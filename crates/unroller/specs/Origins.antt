@@ -1,7 +1,6 @@
 -- The walk for an element's last writer, beside the executed statements. The contracts of its private functions cite these.
-use Rattle.std.specs.Prelude.{ℕ, ◌+◌, ◌≤◌, ◌<◌, ◌≡◌, List, [], ◌∷◌, ◌++◌, Bool, length, get_or, take, eqb, ℤ, pos}
+use Rattle.std.specs.Prelude.{ℕ, ◌+◌, ◌≤◌, ◌<◌, ◌≡◌, List, [], ◌∷◌, ◌++◌, Bool, length, get_or, take, eqb, ℤ, pos, if◌then◌else◌}
 use Rattle.std.proofs.Math.Option.{Option, none, some}
-use Rattle.model.specs.Test.{if◌then◌else◌}
 use Rattle.model.specs.Tables.{Tables}
 use Rattle.reader.specs.Field.{got}
 use Rattle.reader.specs.Syntax.{Expr, Item, Items}

@@ -1,7 +1,6 @@
 -- The code's own table of cells: a byte for each array and cell, at 2048 * array + cell.
 -- 0 no such cell, 1 not yet to be read, 2 may be read and written, 3 may be read only.
-use Rattle.std.specs.Prelude.{ℕ, ◌+◌, ◌*◌, ◌≤◌, ◌<◌, ◌≡◌, List, [], ◌∷◌, Bool, ◌&&◌, ◌||◌, length, get_or, ltb, leb, eqb}
-use Rattle.model.specs.Test.{if◌then◌else◌}
+use Rattle.std.specs.Prelude.{ℕ, ◌+◌, ◌*◌, ◌≤◌, ◌<◌, ◌≡◌, List, [], ◌∷◌, Bool, ◌&&◌, ◌||◌, length, get_or, ltb, leb, eqb, if◌then◌else◌}
 use Rattle.model.specs.Tables.{Array, cells, inside, array_at}
 use Rattle.model.specs.Update.{Update, written}
 

@@ -1,6 +1,5 @@
 -- The unroller and the check of a list: their replies, and what they leave in the lent list.
-use Rattle.std.specs.Prelude.{ℕ, List, length, replicate, leb}
-use Rattle.model.specs.Test.{if◌then◌else◌}
+use Rattle.std.specs.Prelude.{ℕ, List, length, replicate, leb, if◌then◌else◌}
 use Rattle.model.specs.Tables.{Tables}
 use Rattle.model.specs.Update.{Listed}
 use Rattle.model.specs.Reply.{Side, left, both}

@@ -1,8 +1,7 @@
 -- What the functions that write one update answer and leave in the list. Each speaks of whatever stands at a place by the grammar:
 -- s the bytes, t the tables, is the index values in eight places, p the place of the statement's code.
-use Rattle.std.specs.Prelude.{ℕ, zero, suc, ◌+◌, ◌*◌, ◌≤◌, ◌<◌, ◌≡◌, List, [], ◌∷◌, ◌++◌, Bool, true, ◌&&◌, ◌||◌, not, length, get_or, drop, take, set, ltb, leb, eqb, ℤ}
+use Rattle.std.specs.Prelude.{ℕ, zero, suc, ◌+◌, ◌*◌, ◌≤◌, ◌<◌, ◌≡◌, List, [], ◌∷◌, ◌++◌, Bool, true, ◌&&◌, ◌||◌, not, length, get_or, drop, take, set, ltb, leb, eqb, ℤ, if◌then◌else◌}
 use Rattle.std.proofs.lemmas.List.Edits.{sets}
-use Rattle.model.specs.Test.{if◌then◌else◌}
 use Rattle.model.specs.Tables.{Tables, array_at, starts}
 use Rattle.model.specs.Update.{Update}
 use Rattle.reader.specs.Field.{Reader, got, refuse, times, byte}

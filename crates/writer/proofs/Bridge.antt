@@ -1,5 +1,6 @@
 -- The records of a list that stands in words: what the code may know of them, that their bytes are the statements of its file, and
 -- that measuring them answers question 28 and gives the length of the statements.
+use Rattle.std.specs.Prelude.{if◌then◌else◌}
 use mathlib.Core.Path.{◌≡◌, refl, sym, ap, ap₂, subst, ◌∙◌}
 use Prim.Native.Nat.{ℕ, suc, ◌+◌, ◌-◌, ◌*◌, ◌/◌, ◌%◌, ◌≤◌, ◌<◌}
 use mathlib.Core.List.{List, [], ◌∷◌, ◌++◌, append-nil}
@@ -13,7 +14,7 @@ use lib.IntN.{ℤ, pos, negsuc}
 use mir.Syntax.{w32}
 use mir.Val.{of_z}
 use borrow.Author.Tests.{ltb-true, ltb-false, leb-true, leb-false, le-leb, lt-leb, lt-ltb, le-ltb}
-use Rattle.model.specs.Test.{if◌then◌else◌, within, every}
+use Rattle.model.specs.Test.{within, every}
 use Rattle.model.specs.Tables.{Array, Tables, array_at}
 use Rattle.model.specs.Update.{Tree, Trees, Update, size, sizes, nodes}
 use Rattle.model.specs.Update.Tree.{cell, number, constant, operator}

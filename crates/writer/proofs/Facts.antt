@@ -1,4 +1,5 @@
 -- What holds of an accepted list, for the code that writes it, and the replies.
+use Rattle.std.specs.Prelude.{if◌then◌else◌}
 use mathlib.Core.Path.{◌≡◌, refl, sym, ap, ap₂, subst, ◌∙◌}
 use Prim.Native.Nat.{ℕ, zero, suc, ◌+◌, ◌-◌, ◌*◌, ◌≤◌, ◌<◌}
 use mathlib.Core.List.{List, [], ◌∷◌, ◌++◌, append_assoc}
@@ -11,7 +12,7 @@ use lib.Dec.{leb}
 use borrow.Author.Tests.{le-leb, lt-leb}
 use borrow.Rule.Slice.PartMut.{mid_of, put_mid}
 use Rattle.model.proofs.Operators.{in_small}
-use Rattle.model.specs.Test.{if◌then◌else◌, every}
+use Rattle.model.specs.Test.{every}
 use Rattle.model.specs.Tables.{Array, Tables, array_at, operator_byte}
 use Rattle.model.specs.Update.{Update, Listed, nodes}
 use Rattle.model.specs.Reply.{left}

@@ -1,4 +1,5 @@
 -- Numbers of several bytes and forms inside no loop: read back from their bytes, and the bytes of what was read.
+use Rattle.std.specs.Prelude.{if◌then◌else◌}
 use mathlib.Core.Path.{◌≡◌, refl, sym, ap, ap₂, subst, ◌∙◌}
 use Prim.Native.Nat.{ℕ, zero, suc, ◌+◌, ◌*◌, ◌/◌, ◌%◌, ◌≤◌, ◌<◌}
 use mathlib.Core.List.{List, []}
@@ -11,7 +12,6 @@ use mir.Syntax.{w16}
 use mir.Val.{to_z, of_z, Fits}
 use mir.Facts.{to_z-of_z, of_z-to_z, Fits-of_z, sfits_to_z}
 use borrow.Author.Tests.{le-leb, leb-true}
-use Rattle.model.specs.Test.{if◌then◌else◌}
 use Rattle.reader.specs.Field.{Bytes, Outcome, got, no, field, u16, u32, i16, little_endian, times}
 use Rattle.reader.specs.Syntax.{Form}
 use Rattle.reader.specs.Grammar.{form}

@@ -1,4 +1,5 @@
 -- Counting and measuring the records of a list.
+use Rattle.std.specs.Prelude.{if◌then◌else◌}
 use mathlib.Core.Path.{◌≡◌, refl, sym, ap, subst, ◌∙◌}
 use Prim.Native.Nat.{ℕ, zero, suc, ◌+◌, ◌-◌, ◌*◌, ◌≤◌, ◌<◌}
 use mathlib.Core.List.{List}
@@ -7,7 +8,6 @@ use native.Mathlib.Omega.{arith}
 use lib.ListN.{length, get_or}
 use lib.Dec.{leb, eqb, ltb}
 use borrow.Author.Tests.{eq-eqb, ne_eqb, le-leb, lt-leb, eqb-true, eqb-false, ltb-true, ltb-false, lt-ltb, le-ltb}
-use Rattle.model.specs.Test.{if◌then◌else◌}
 use Rattle.writer.specs.Records.{record_bytes, Known, KnownAll, sized, wide, wide_at, begins, measured}
 use Rattle.writer.specs.Answers.{Ended, Counted, Measures}
 use Rattle.writer.specs.declared.records.Measured.TheVariants as measure

@@ -1,4 +1,5 @@
 -- The file reads back, is the only one, in the lowest version; 28 names the first update that does not fit.
+use Rattle.std.specs.Prelude.{if◌then◌else◌}
 use mathlib.Core.Path.{◌≡◌, refl, sym, ap, ap₂, subst, ◌∙◌}
 use Prim.Native.Nat.{ℕ, suc, ◌≤◌}
 use mathlib.Core.List.{List, [], ◌∷◌, ◌++◌, append_assoc}
@@ -7,7 +8,7 @@ use native.Mathlib.Omega.{arith}
 use lib.ListN.{length, length-append}
 use lib.Dec.{leb, eqb}
 use borrow.Author.Tests.{le-leb, leb-true, eq-eqb, eqb-true}
-use Rattle.model.specs.Test.{if◌then◌else◌, within, every}
+use Rattle.model.specs.Test.{within, every}
 use Rattle.model.specs.Tables.{Array, Tables, swaps, operator_in, operator_byte}
 use Rattle.model.specs.Update.{Update, Listed}
 use Rattle.model.proofs.Operators.{marked_out}

@@ -1,4 +1,5 @@
 -- For the public function: questions 25 and 26 by the check of lists, then an accepted list.
+use Rattle.std.specs.Prelude.{if◌then◌else◌}
 use mathlib.Core.Path.{◌≡◌, refl, sym}
 use Prim.Native.Nat.{ℕ}
 use mathlib.Core.List.{List}
@@ -6,7 +7,6 @@ use mathlib.Core.Bool.{Bool, true, false, true≢false}
 use native.Mathlib.Omega.{arith}
 use lib.ListN.{length}
 use lib.Dec.{leb}
-use Rattle.model.specs.Test.{if◌then◌else◌}
 use Rattle.model.specs.Update.{Listed}
 use Rattle.model.specs.Reply.{left, both}
 use Rattle.model.specs.Memory.{list_words}

@@ -1,7 +1,7 @@
 -- What the writer promises of its definitions, each as a named type. That its code meets them is the contract of `write_file`.
-use Rattle.std.specs.Prelude.{ℕ, ◌≤◌, ◌≡◌, List, ◌∷◌, ◌++◌, Bool, true, false, not, length, take, drop}
+use Rattle.std.specs.Prelude.{ℕ, ◌≤◌, ◌≡◌, List, ◌∷◌, ◌++◌, Bool, true, false, not, length, take, drop, if◌then◌else◌}
 use Rattle.std.proofs.Math.Option.{some}
-use Rattle.model.specs.Test.{if◌then◌else◌, every}
+use Rattle.model.specs.Test.{every}
 use Rattle.model.specs.Tables.{swaps}
 use Rattle.model.specs.Update.{Update, Listed}
 use Rattle.model.specs.Reply.{Side}

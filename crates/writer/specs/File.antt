@@ -1,8 +1,8 @@
 -- An update list as a program file without loops or guards: one statement for each update, in the lowest version that can hold it.
-use Rattle.std.specs.Prelude.{ℕ, zero, suc, ◌/◌, ◌%◌, List, [], ◌∷◌, ◌++◌, length, ℤ, pos}
+use Rattle.std.specs.Prelude.{ℕ, zero, suc, ◌/◌, ◌%◌, List, [], ◌∷◌, ◌++◌, length, ℤ, pos, if◌then◌else◌}
 use Rattle.std.specs.Int.{w16}
 use Rattle.std.proofs.Common.{of_z}
-use Rattle.model.specs.Test.{if◌then◌else◌, every}
+use Rattle.model.specs.Test.{every}
 use Rattle.model.specs.Tables.{Array, Tables, cells, array_at, operator_in}
 use Rattle.model.specs.Update.{Tree, Trees, Update, Listed}
 use Rattle.model.specs.Update.Tree.{cell, number, constant, operator}

@@ -1,6 +1,6 @@
 -- The bytes of a list's tables, word by word, as the code writes them.
-use Rattle.std.specs.Prelude.{ℕ, zero, suc, ◌+◌, ◌*◌, ◌≤◌, ◌<◌, ◌≡◌, List, [], ◌∷◌, ◌++◌, length, get_or}
-use Rattle.model.specs.Test.{if◌then◌else◌, every}
+use Rattle.std.specs.Prelude.{ℕ, zero, suc, ◌+◌, ◌*◌, ◌≤◌, ◌<◌, ◌≡◌, List, [], ◌∷◌, ◌++◌, length, get_or, if◌then◌else◌}
+use Rattle.model.specs.Test.{every}
 use Rattle.model.specs.Tables.{operator_in}
 use Rattle.reader.specs.Grammar.{mark}
 use Rattle.writer.specs.File.{little_bytes, in_row, dimension_bytes}

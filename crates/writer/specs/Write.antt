@@ -1,8 +1,8 @@
 -- The writer's reply, and what it leaves in the lent output.
-use Rattle.std.specs.Prelude.{ℕ, suc, List, [], ◌∷◌, ◌++◌, Bool, true, ◌&&◌, length, drop, leb}
+use Rattle.std.specs.Prelude.{ℕ, suc, List, [], ◌∷◌, ◌++◌, Bool, true, ◌&&◌, length, drop, leb, if◌then◌else◌}
 use Rattle.std.proofs.Math.Option.{Option, some}
 use Rattle.std.proofs.Math.Option.Option.{none as nothing}
-use Rattle.model.specs.Test.{if◌then◌else◌, every}
+use Rattle.model.specs.Test.{every}
 use Rattle.model.specs.Update.{Tree, Trees, Update, Listed}
 use Rattle.model.specs.Update.Tree.{cell, number, constant, operator}
 use Rattle.model.specs.Update.Trees.{nil, cons}

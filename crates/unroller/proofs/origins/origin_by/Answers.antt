@@ -1,9 +1,9 @@
+use Rattle.std.specs.Prelude.{if◌then◌else◌}
 use native.Mathlib.Omega.{arith}
 use mathlib.Core.Path.{sym, ap, ◌∙◌}
 use mathlib.Core.Bool.{Bool}
 use lib.ListN.{get_or}
 use borrow.Author.Tests.{eq-eqb, ne_eqb}
-use Rattle.model.specs.Test.{if◌then◌else◌}
 use Rattle.unroller.specs.OriginReply.{written, starting, unwritten}
 use Rattle.unroller.proofs.origins.origin_by.Goals as goal
 

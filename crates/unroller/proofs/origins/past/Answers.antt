@@ -1,7 +1,7 @@
+use Rattle.std.specs.Prelude.{if◌then◌else◌}
 use mathlib.Core.Path.{sym, ap}
 use mathlib.Core.Bool.{Bool}
 use mathlib.Core.List.{◌∷◌, []}
-use Rattle.model.specs.Test.{if◌then◌else◌}
 use Rattle.reader.specs.Entries.{tables_in}
 use Rattle.unroller.specs.Origins.{held}
 use Rattle.unroller.proofs.Traces.{past_is, past_not}
