@@ -1,4 +1,4 @@
-/* The proved loop pair checker. Link with target/staticlib/libcabi.a, which `rt staticlib cabi` writes (x86-64 Linux).
+/* The proved loop pair checker. Link with target/staticlib/libcabi.a, which `tools/build cabi` writes (x86-64 Linux).
  *
  * Call it through tengmua_work, at the end of this page: the functions over it lend the work memory, and no slice twice.
  *

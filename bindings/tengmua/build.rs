@@ -1,4 +1,4 @@
-//! Links `libcabi.a`, which `rt staticlib cabi` writes. TENGMUA_LIB names another folder for it.
+//! Links `libcabi.a`, which `tools/build cabi` writes. TENGMUA_LIB names another folder for it.
 
 use std::env;
 use std::path::PathBuf;
@@ -11,7 +11,7 @@ fn main() {
     };
     let library = folder.join("libcabi.a");
     if !library.exists() {
-        panic!("{} is missing: run `rt staticlib cabi` first", library.display());
+        panic!("{} is missing: run `tools/build cabi` first", library.display());
     }
     println!("cargo:rustc-link-search=native={}", folder.display());
     println!("cargo:rustc-link-lib=static=cabi");

@@ -1,4 +1,4 @@
-// The checker for C and Rust to link (`rt staticlib cabi`, bindings/c/tengmua.h): a slice is a pointer and a length, a reply four
+// The checker for C and Rust to link (`tools/build cabi`, bindings/c/tengmua.h): a slice is a pointer and a length, a reply four
 // numbers by value, an explanation nine and eight index values. Nothing is asked of a caller beyond that its slices are memory it owns, and that none it lends to be
 // written overlaps another.
 #![tactic(auto)]
