@@ -216,9 +216,10 @@ CALLS = {
 OPTIONS = {option for made, (_, _, others) in CALLS.items() for option in (made, *others)} - {''}
 OF_FILES = ('--compare', '--by-number', '--bytes', '--part', '--out', '--jobs')  # these speak of files: they do not go with `-`
 TOGETHER = {'--part': '--out', '--out': '--part'}  # each asks for the other
-# What would have a say in where the scripts of `rt` go, where cargo puts what it builds, and what that is.
-UNWANTED = ('CDPATH', 'CARGO_BUILD_TARGET', 'CARGO_BUILD_TARGET_DIR', 'CARGO_TARGET_DIR', 'CARGO_BUILD_BUILD_DIR',
-            'CARGO_BUILD_RUSTFLAGS', 'CARGO_ENCODED_RUSTFLAGS', 'RUSTFLAGS')
+# What would have a say in which compiler `rt` takes, where scripts go, where cargo puts what it builds, and what that is. What Python
+# goes by, in which `rt` is written, begins with PYTHON.
+UNWANTED = ('RT_BACKEND', 'RT_ALLOW_C', 'CDPATH', 'CARGO_BUILD_TARGET', 'CARGO_BUILD_TARGET_DIR', 'CARGO_TARGET_DIR',
+            'CARGO_BUILD_BUILD_DIR', 'CARGO_BUILD_RUSTFLAGS', 'CARGO_ENCODED_RUSTFLAGS', 'RUSTFLAGS')
 SIGNALS = (signal.SIGINT, signal.SIGTERM, signal.SIGHUP)
 TELL_EVERY = 20  # seconds between lines that say how far a build is
 SHOW_EVERY = 0.1  # seconds between two states of the line that says how far a run is
@@ -467,7 +468,8 @@ def crates_of(name):
     """The crate and all that it builds on, as crates.txt has them."""
     with open(os.path.join(ROOT, 'crates.txt'), encoding='utf-8', errors='replace') as file:
         rows = [line.split('#')[0].split(':') for line in file]
-    needs = {row[0].strip(): row[1].split() for row in rows if len(row) == 2}
+    # Behind a name may stand what kind of crate it is.
+    needs = {row[0].split()[0]: row[1].split() for row in rows if len(row) == 2 and row[0].strip()}
     found, todo = set(), [name]
     while todo:
         crate = todo.pop()
@@ -479,7 +481,7 @@ def crates_of(name):
 
 def started(command, errors, **how):
     """Starts a tool at the root."""
-    environment = {name: value for name, value in os.environ.items() if name not in UNWANTED}
+    environment = {name: value for name, value in os.environ.items() if name not in UNWANTED and not name.startswith('PYTHON')}
     try:
         return subprocess.Popen(command, cwd=ROOT, env=environment, stdin=subprocess.DEVNULL, stdout=subprocess.PIPE,
                                 stderr=errors, **how)
@@ -514,11 +516,10 @@ class Proved:
         say(f'proving and building {self.name} ({len(crates)} crates), which takes some minutes where nothing is proved yet;')
         say('tengmua --unproved answers sooner, without a proof. The lines of the prover follow.')
         built = os.path.join(ROOT, 'target', 'bin', self.name)
-        # Without its stamp `rt` proves and links the program again, whatever stands in target/bin.
-        for path in (os.path.join(ROOT, 'target', 'stamp', self.name), built):
-            with contextlib.suppress(FileNotFoundError):
-                os.remove(path)
-        run_build(['rt', 'check', self.name], re.compile(rb'rt: \w+ proved'), len(crates))
+        # tools/build links the program anew, whatever stands there. Where that can't be written it is said before minutes of proving.
+        with contextlib.suppress(FileNotFoundError):
+            os.remove(built)
+        run_build(['tools/build', self.name], re.compile(rb'logic=proved '), len(crates))
         return built
 
 
@@ -678,7 +679,7 @@ def pass_on(child, step, steps):
             return  # though something else holds the pipe open
         elif time.monotonic() - told > TELL_EVERY:
             told = time.monotonic()
-            say(f'{told - began:.0f} s' + (f', {done} of {steps} crates proved' if steps else ''))
+            say(f'{told - began:.0f} s' + (f', {done} of at most {steps} crates proved' if steps else ''))
 
 
 # ---- what is asked
