@@ -7,10 +7,34 @@ exchange of words of the old line for words of the new one leads from each name 
 import re
 import subprocess
 from collections import namedtuple
+from pathlib import Path
 
 FUNCTION = re.compile(r'^( *)(?:pub(?:\(crate\))? )?(?:(?:const|unsafe|extern "C") )*fn (\w+)', re.M)
 CYCLE = re.compile(r'#\[cycle\((\w+)\)\]\n$')
 IMPL = re.compile(r'^impl(?:<[^>]*>)? (?:[\w:]+ for )?(\w+)', re.M)
+
+# What `rt check` says where a fact fails, of all edits: arithmetic that does not follow, two types or sides that are not the same, a
+# comparison that does not hold, a search without a proof, equations that do not lead there, a rewritten goal whose ends differ.
+# What it says otherwise, tried with a small crate, is no fact: "`eqq` is not in scope", "module `..` has no `swops` that can be named
+# from here", "record `Array` has no field `role`", "`role` is not a field of record `Array`", "an operand is missing at the end", "the
+# `(` opened at 21:11 is still open", "the numeral `3` is checked against `Bool`", "this is applied to an argument but has type ..",
+# "`cells` has no clause for 1 case", "this call of `cells` inside its own definition is not a structural call". A wrong type in what
+# was edited reads like a fact ("expected type `Bool`, but this has type .."). Its place tells it: an error in src/ or specs/ is one
+# of the text, a fact fails in proofs/ or is a goal. Code that does not compile (`error[unknown-name]`) gets no verdict.
+FACT = re.compile('|'.join((
+    r'`omega`: the (?:goal|part `[^`]*` of the goal) does not follow from what it read',
+    r'the two (?:types|sides) (?:first )?differ',
+    r'computed as far as they go, the two types are `',
+    r'computed as a goal is, one side reads `',
+    r'expected type `',
+    r'does not hold \(this comparison',
+    r'`search`: no proof of',
+    r'`search` (?:does not close|did not prove|gave up at one of its limits)',
+    r'`cc`: the equations do not join',
+    r'`cc` met a bound of its own before the equations had joined',
+    r'what it leaves must be a path whose two ends are equal')))
+TYPE = re.compile(r'`[^`]*`: expected type `[^` ]*`, but this has type `[^` ]*`$', re.M)  # of a variable, as ℕ and ℤ
+FALSE = re.compile('allow values at which this goal is false')
 
 ERROR = re.compile(r'^(?:\./)?((?:src|specs|proofs)/\S+?):(\d+):\d+: error: ((?:`([^`\n]*)`: )?.*(?:\n[ \t].*)*)', re.M)
 OPEN = re.compile(r'^note: (?:\./)?(src/\S+?):(\d+):\d+: (it is not proved that .*\(`([^`\n]*)`\).*)', re.M)
@@ -18,7 +42,7 @@ FOLLOWS = re.compile(r'.*(?:depends? on .* (?:was|were) not checked|is not admit
 NO_GOAL = re.compile(r'module `[^`]*\.Goals` has no `([^`]*)` that can be named from here')
 NO_FACT = re.compile(r'record `[^`]*` has no field `([^`]*)`(.*(?:\n.*)?)')
 
-# Lines of a file of a crate: `old` stands at the place `at`, how often in all is `count`.
+# A line of a file of a crate, or a part of one: `old` stands at the place `at`, and `count` times in all.
 Change = namedtuple('Change', 'file old new at count')
 
 # A function: its name, its text, its first and last line, and the folder of its proof, which those that call each other by turns share.
@@ -29,7 +53,7 @@ Error = namedtuple('Error', 'file line words label is_goal')
 
 
 def change_of(crate, file, old, new):
-    """The change, with the place of `old` in this crate's file."""
+    """The change, with the place of `old` in this file of the crate's folder."""
     path = crate / file
     text = path.read_text() if path.is_file() else ''
     return Change(file, old, new, text.find(old), text.count(old))
@@ -94,6 +118,21 @@ def names_for(error, said):
     return re.findall(r'`([\w-]+)`', ' '.join(asked))
 
 
+def fact_of(errors):
+    """The first of these that says that a fact fails, or None. A goal that is left open is one, but where an answer only goes by another
+    name; then one that is shown to be false still is."""
+    fits = not any(map(missing, errors))
+    for error in errors:
+        if fits or FALSE.search(error.words) if error.is_goal else FACT.search(error.words) and not TYPE.match(error.words):
+            return error
+    return None
+
+
+def in_short(error):
+    fact = None if error.is_goal else FACT.search(error.words)
+    return f'{error.file}:{error.line}: {" ".join(error.words[fact.start() if fact else 0:].split())[:200]}'
+
+
 def words_of(line):
     """The names and numbers of a line, as they stand in the name of a goal."""
     found = set(re.findall(r'[A-Za-z_]\w*', line))
@@ -134,3 +173,49 @@ def renamed(proof, old, new, is_test):
     if is_test:
         return re.sub(rf'(?i)(?<![\w])(if|then|else)-{re.escape(old)}(?!\w)', rf'\1-{new}', proof)
     return re.sub(rf'(?<![\w-]){re.escape(old)}(?![\w-])', new, proof)
+
+
+class Copy:
+    """A crate in a copy of the repository. What is written into it is put back."""
+
+    def __init__(self, repository, crate):
+        self.folder, self.kept = Path(repository) / 'crates' / crate, {}
+
+    def write(self, path, text):
+        self.kept.setdefault(path, path.read_text())
+        path.write_text(text)
+
+    def put_back(self):
+        for path, text in self.kept.items():
+            path.write_text(text)
+        self.kept = {}
+
+    def check(self):
+        """Status and words of a check over what earlier ones kept."""
+        done = subprocess.run(['rt', 'check'], cwd=self.folder, capture_output=True, text=True)
+        return done.returncode, done.stdout + done.stderr
+
+    def rename(self, change, text, said):
+        """Whether the proof of the function that is changed has been given the new names of its test; `text` is the file's own."""
+        function = function_at(change.file, text, change.at) if change.file.startswith('src/') else None
+        files = sorted((self.folder / function.folder).glob('*.antt')) if function else []
+        lines = line_at(text, change.at), line_at(changed(text, change), change.at)
+        errors = own_errors(function, change.file, errors_of(said)) if files else []
+        proof = '\n'.join(path.read_text() for path in files)
+        found = renaming(errors, said, proof, *lines)
+        for path in files if found else []:
+            self.write(path, renamed(path.read_text(), *found))
+        return found is not None
+
+    def tried(self, changes):
+        """The prover's status and words with the changes written into the copy."""
+        changes = sorted(changes, key=lambda change: change.at, reverse=True)
+        own = {change.file: (self.folder / change.file).read_text() for change in changes}
+        for change in changes:
+            path = self.folder / change.file
+            self.write(path, changed(path.read_text(), change))
+        status, said = self.check()
+        while status == 1 and any([self.rename(change, own[change.file], said) for change in changes]):
+            status, said = self.check()
+        self.put_back()
+        return status, said
