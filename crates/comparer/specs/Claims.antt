@@ -154,13 +154,13 @@ FormsFit = (f : Form) (is : List ℤ) → narrow f ≡ true → every fits16 is 
 abbrev pub ProductsSmall : Type 0
 ProductsSmall = (c i : ℤ) → signed 127 c ≡ true → signed 32767 i ≡ true → nat_abs (c *ℤ i) ≤ 33587200
 
--- and no partial sum, in the order in which the code adds them (`formSum`): the constant, then a product for each loop, outermost first;
+-- and no partial sum, in the order in which the code adds them (`form_sum`): the constant, then a product for each loop, outermost first;
 abbrev pub SumsSmall : Type 0
 SumsSmall =
     (z : ℤ) (cs is : List ℤ) (k : ℕ) → signed 32767 z ≡ true → every (signed 127) cs ≡ true → every (signed 32767) is ≡ true → k ≤ 8
     → nat_abs (form_sum z cs is k) ≤ 33587200
 
--- so 32 signed bits are enough: where only these are kept of each product and each sum (`wrappedSum`), eight products give the form's
+-- so 32 signed bits are enough: where only these are kept of each product and each sum (`wrapped_sum`), eight products give the form's
 -- value.
 abbrev pub SumsExact : Type 0
 SumsExact =

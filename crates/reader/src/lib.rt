@@ -19,7 +19,7 @@ pub mod header;
 pub mod items;
 pub mod tables;
 
-// Whether a file is a program: accepted, or a question's number and place. A program alone is the left one (`verdictSays`).
+// Whether a file is a program: accepted, or a question's number and place. A program alone is the left one (`verdict_says`).
 #[derive(Clone, Copy)]
 pub enum Verdict {
     Accepted,

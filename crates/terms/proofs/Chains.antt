@@ -1,4 +1,4 @@
--- A chain whose links are `lastIn` meets each id of its bucket: a look along it finds what a look at every id finds.
+-- A chain whose links are `last_in` meets each id of its bucket: a look along it finds what a look at every id finds.
 -- Nothing here is about memory or about the mix.
 use Rattle.std.specs.Prelude.{if◌then◌else◌}
 use Rattle.std.proofs.Common.{◌≡◌, ℕ, zero, suc, ◌<◌, ◌≤◌, Bool, true, false, eqb, sym, refl, ap, ◌∙◌, ⊎_elim, le_of_suc-le-suc, not-suc-le-zero, eq-or-lt_of_le, arith, eq-eqb, ne_eqb, eqb-true}
