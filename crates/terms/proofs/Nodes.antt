@@ -1,4 +1,4 @@
--- What interning does where memory holds a list of nodes. Of the mix only `bucket-lt` is used.
+-- What interning does where memory holds a list of nodes. Of the mix only `bucket_lt` is used.
 use Rattle.std.proofs.Common.{◌≡◌, ℕ, suc, ◌+◌, ◌*◌, ◌<◌, ◌≤◌, Bool, true, false, eqb, List, [], ◌∷◌, ◌++◌, length, replicate, sym, refl, ap, ◌∙◌, subst, not-suc-le-zero, add-one, arith, length-append, below_more, lt-ltb, eqb-true}
 use lib.ListN.{length-replicate, get_or-replicate, get_or-append}
 use lib.Seq.{get_or_at}
