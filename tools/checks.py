@@ -39,8 +39,8 @@ FALSE = re.compile('allow values at which this goal is false')
 ERROR = re.compile(r'^(?:\./)?((?:src|specs|proofs)/\S+?):(\d+):\d+: error: ((?:`([^`\n]*)`: )?.*(?:\n[ \t].*)*)', re.M)
 OPEN = re.compile(r'^note: (?:\./)?(src/\S+?):(\d+):\d+: (it is not proved that .*\(`([^`\n]*)`\).*)', re.M)
 FOLLOWS = re.compile(r'.*(?:depends? on .* (?:was|were) not checked|is not admitted: rejected)')
-NO_GOAL = re.compile(r'module `[^`]*\.Goals` has no `([^`]*)` that can be named from here')
-NO_FACT = re.compile(r'record `[^`]*` has no field `([^`]*)`(.*(?:\n.*)?)')
+NO_GOAL = re.compile(r'module `[^`]*\.(?:Goals|Given)`\s+has no `([^`]*)` that can be named from here')
+NO_FACT = re.compile(r'record `[^`]*`(?:\s+\(nearest: [^)]*\))?\s+has no field `([^`]*)`')
 
 # A line of a file of a crate, or a part of one: `old` stands at the place `at`, and `count` times in all.
 Change = namedtuple('Change', 'file old new at count')
@@ -110,12 +110,12 @@ def missing(error):
 
 
 def names_for(error, said):
-    """The names that there are in place of the one that is missing."""
+    """The names that there are, among them what is there in place of the one that is missing."""
     goal = NO_GOAL.search(error.words)
     if not goal:
-        return re.findall(r'[`.]([\w-]+)', NO_FACT.search(error.words).group(2))
-    asked = re.findall(rf'^help: `Goals` has no .*`{re.escape(goal.group(1))}`.*; rattle asks for ([^;\n]*)', said, re.M)
-    return re.findall(r'`([\w-]+)`', ' '.join(asked))
+        return re.findall(r'[`.]([\w-]+)', error.words)
+    helps = re.findall(rf'^help: `(?:Goals|Given)` has no .*`{re.escape(goal.group(1))}`.*', said, re.M)
+    return [name for line in helps for name in re.findall(r'`([\w-]+)`', line.split('; a `use` line')[0])]
 
 
 def fact_of(errors):
@@ -146,33 +146,42 @@ def is_of(name, words):
 
 
 def exchange(gone, name):
-    """What is exchanged in the one name, and for what: the test behind the last `if`, `then` or `else` that they share, or all."""
+    """What is exchanged in the one name, and for what, and where: behind the last `if`, `then`, `else` or `loop` that they share, or
+    nowhere, for they are exchanged whole. The number of a name, and what is said of a loop, stays."""
     old, new = gone.split('-'), name.split('-')
     shared = next((k for k, (a, b) in enumerate(zip(old, new)) if a != b), min(len(old), len(new)))
-    test = max([k + 1 for k in range(shared) if old[k] in ('if', 'then', 'else')], default=0)
-    return '-'.join(old[test:]), '-'.join(new[test:]), test > 0
+    start = max([k + 1 for k in range(shared) if old[k] in ('if', 'then', 'else', 'loop')], default=0)
+    if start == 0:
+        return gone, name, None
+    while old[-1] == new[-1] and (old[-1].isdigit() or old[start - 1] == 'loop') and min(len(old), len(new)) > start + 1:
+        old, new = old[:-1], new[:-1]
+    return '-'.join(old[start:]), '-'.join(new[start:]), 'loop' if old[start - 1] == 'loop' else 'if|then|else'
+
+
+def is_explained(old, new, behind, old_words, new_words):
+    """Whether the words that are exchanged are those of the old line and of the new one."""
+    if behind is None:
+        kind, old, kind_now, new = *old.partition('-')[::2], *new.partition('-')[::2]
+        if kind != kind_now:
+            return False
+    return bool(old and new) and is_of(old, old_words) and is_of(new, new_words)
 
 
 def renaming(errors, said, proof, old_line, new_line):
     """The one exchange that leads from each missing name to one that the proof does not have, or None."""
-    common = None
-    for error in errors:
-        gone = missing(error)
-        if gone is None:
-            continue
-        names = [name for name in names_for(error, said) if not re.search(rf'(?<![\w-]){re.escape(name)}(?![\w-])', proof)]
-        found = [exchange(gone, name) for name in names]
-        found = [x for x in found if x[0] and x[1] and (x[2] or x[0].split('-')[0] == x[1].split('-')[0])]
-        found = [x for x in found if is_of(x[0] if x[2] else x[0].split('-', 1)[-1], words_of(old_line))
-                 and is_of(x[1] if x[2] else x[1].split('-', 1)[-1], words_of(new_line))]
-        common = [x for x in found if common is None or x in common]
+    common, words = None, (words_of(old_line), words_of(new_line))
+    for gone, error in [(missing(error), error) for error in errors]:
+        if gone is not None:
+            names = [name for name in names_for(error, said) if not re.search(rf'(?<![\w-]){re.escape(name)}(?![\w-])', proof)]
+            found = [x for x in (exchange(gone, name) for name in names) if is_explained(*x, *words)]
+            common = [x for x in found if common is None or x in common]
     return common[0] if common else None
 
 
-def renamed(proof, old, new, is_test):
-    if is_test:
-        return re.sub(rf'(?i)(?<![\w])(if|then|else)-{re.escape(old)}(?!\w)', rf'\1-{new}', proof)
-    return re.sub(rf'(?<![\w-]){re.escape(old)}(?![\w-])', new, proof)
+def renamed(proof, old, new, behind):
+    if behind is None:
+        return re.sub(rf'(?<![\w-]){re.escape(old)}(?![\w-])', new, proof)
+    return re.sub(rf'(?i)(?<!\w)({behind})-{re.escape(old)}(?!\w)', rf'\1-{new}', proof)
 
 
 class Copy:
