@@ -224,7 +224,9 @@ class Copy:
             path = self.folder / change.file
             self.write(path, changed(path.read_text(), change))
         status, said = self.check()
-        while status == 1 and any([self.rename(change, own[change.file], said) for change in changes]):
+        for _ in range(8):  # names come to light one after the other, those of a caller once what it calls is proved
+            if status != 1 or not any([self.rename(change, own[change.file], said) for change in changes]):
+                break
             status, said = self.check()
         self.put_back()
         return status, said
