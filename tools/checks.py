@@ -110,12 +110,13 @@ def missing(error):
 
 
 def names_for(error, said):
-    """The names that there are, among them what is there in place of the one that is missing."""
+    """The names that there are, among them the one that there is in place of the missing one, and whether those are all."""
     goal = NO_GOAL.search(error.words)
     if not goal:
-        return re.findall(r'[`.]([\w-]+)', error.words)
+        return re.findall(r'[`.]([\w-]+)', error.words), True
     helps = re.findall(rf'^help: `(?:Goals|Given)` has no .*`{re.escape(goal.group(1))}`.*', said, re.M)
-    return [name for line in helps for name in re.findall(r'`([\w-]+)`', line.split('; a `use` line')[0])]
+    listed = ' '.join(line.split('; a `use` line')[0] for line in helps)
+    return re.findall(r'`([\w-]+)`', listed), not re.search(r' and \d+ more', listed)
 
 
 def fact_of(errors):
@@ -170,10 +171,11 @@ def is_explained(old, new, behind, old_words, new_words):
 def renaming(errors, said, proof, old_line, new_line):
     """The one exchange that leads from each missing name to one that the proof does not have, or None."""
     common, words = None, (words_of(old_line), words_of(new_line))
-    for gone, error in [(missing(error), error) for error in errors]:
-        if gone is not None:
-            names = [name for name in names_for(error, said) if not re.search(rf'(?<![\w-]){re.escape(name)}(?![\w-])', proof)]
-            found = [x for x in (exchange(gone, name) for name in names) if is_explained(*x, *words)]
+    for error in filter(missing, errors):
+        names, are_all = names_for(error, said)
+        names = [name for name in names if not re.search(rf'(?<![\w-]){re.escape(name)}(?![\w-])', proof)]
+        found = [x for x in (exchange(missing(error), name) for name in names) if is_explained(*x, *words)]
+        if found or are_all:
             common = [x for x in found if common is None or x in common]
     return common[0] if common else None
 
