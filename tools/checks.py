@@ -46,6 +46,7 @@ NO_FACT = re.compile(r'record `[^`]*`(?:\s+\(nearest: [^)]*\))?\s+has no field `
 Change = namedtuple('Change', 'file old new at count')
 
 # A function: its name, its text, its first and last line, and the folder of its proof, which those that call each other by turns share.
+# One that calls itself has such a folder of its own.
 Function = namedtuple('Function', 'name body first last folder cycle')
 
 # What the prover refuses, or a goal that it leaves open: where, of which declaration or goal, and in what words.
@@ -74,12 +75,13 @@ def function_at(file, text, at):
     if not end or end.end() < at:
         return None
     start, (indent, name) = own[0].start(), own[0].groups()
-    cycle = CYCLE.search(text[:start])
+    body, cycle = text[own[0].end():end.start()], CYCLE.search(text[:start])
     owner = IMPL.findall(text[:start])[-1:] if indent else []
     modules = [part for part in file[len('src/'):-len('.rt')].split('/') if part not in ('lib', 'main')]
-    folder = '/'.join(['proofs', *modules, *owner, '+' + cycle.group(1) if cycle else name])
+    calls_itself = re.search(rf'(?:(?<![\w.:])|\bself\.){name}\(', body[body.find('{'):])
+    folder = '/'.join(['proofs', *modules, *owner, '+' + cycle.group(1) if cycle else '+' + name if calls_itself else name])
     lines = text.count('\n', 0, start) + 1, text.count('\n', 0, end.start()) + 1
-    return Function(name, text[own[0].end():end.start()], *lines, folder, bool(cycle))
+    return Function(name, body, *lines, folder, bool(cycle))
 
 
 def is_proved(status, said):
