@@ -10,7 +10,8 @@ from collections import namedtuple
 from pathlib import Path
 
 FUNCTION = re.compile(r'^( *)(?:pub(?:\(crate\))? )?(?:(?:const|unsafe|extern "C") )*fn (\w+)', re.M)
-CYCLE = re.compile(r'#\[cycle\((\w+)\)\]\n$')
+ATTRIBUTES = re.compile(r'(?:^ *#\[[^\]]*\]\n)*\Z', re.M)  # those right before a function
+CYCLE = re.compile(r'#\[cycle\((\w+)\)\]\n')
 IMPL = re.compile(r'^impl(?:<[^>]*>)? (?:[\w:]+ for )?(\w+)', re.M)
 
 # What `rt check` says where a fact fails, of all edits: arithmetic that does not follow, two types or sides that are not the same, a
@@ -69,18 +70,19 @@ def line_at(text, at):
 
 
 def function_at(file, text, at):
-    """The function that this place of a file of src/ is in, or None."""
+    """The function that this place of a file of src/ is in, or None. What is said of it may stand at its first attribute."""
     own = [m for m in FUNCTION.finditer(text) if m.start() <= at][-1:]
     end = own and re.compile(rf'^{own[0].group(1)}\}}', re.M).search(text, own[0].end())
     if not end or end.end() < at:
         return None
     start, (indent, name) = own[0].start(), own[0].groups()
-    body, cycle = text[own[0].end():end.start()], CYCLE.search(text[:start])
+    attributes = ATTRIBUTES.search(text[:start])
+    body, cycle = text[own[0].end():end.start()], CYCLE.search(attributes.group())
     owner = IMPL.findall(text[:start])[-1:] if indent else []
     modules = [part for part in file[len('src/'):-len('.rt')].split('/') if part not in ('lib', 'main')]
     calls_itself = re.search(rf'(?:(?<![\w.:])|\bself\.){name}\(', body[body.find('{'):])
     folder = '/'.join(['proofs', *modules, *owner, '+' + cycle.group(1) if cycle else '+' + name if calls_itself else name])
-    lines = text.count('\n', 0, start) + 1, text.count('\n', 0, end.start()) + 1
+    lines = text.count('\n', 0, attributes.start()) + 1, text.count('\n', 0, end.start()) + 1
     return Function(name, body, *lines, folder, bool(cycle))
 
 
