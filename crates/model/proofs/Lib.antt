@@ -2,4 +2,3 @@ pub mod Abs
 pub mod Up
 pub mod Operators
 pub mod Signs
-mod Zeros

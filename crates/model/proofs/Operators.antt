@@ -1,10 +1,10 @@
 -- What an operator's byte says.
-use mathlib.Core.Path.{◌≡◌, refl, sym}
+use mathlib.Core.Path.{◌≡◌, refl}
 use Prim.Native.Nat.{ℕ, ◌≤◌, ◌<◌}
 use native.Mathlib.Omega.{arith}
 use mathlib.Core.Bool.{Bool, true, false, ◌&&◌, ◌||◌, cond, false≢true, or-true, and-false}
 use lib.Dec.{leb, eqb}
-use borrow.Author.Tests.{eqb-true, eq-eqb, ne_eqb, leb-true, le-leb, lt-leb}
+use borrow.Author.Tests.{eqb-true, ne_eqb, leb-true, le-leb, lt-leb}
 use Rattle.model.specs.Test.{within}
 use Rattle.model.specs.Tables.{swaps, operator_in, operator_byte, arity_of}
 
@@ -26,10 +26,6 @@ module _ (b : ℕ) where
   swaps_is : swaps b ≡ true → b ≡ 0x82
   unfolding swaps
   swaps_is e = eqb-true b 0x82 e
-
-  pub marked : b ≡ 0x82 → swaps b ≡ true
-  unfolding swaps
-  marked e = eq-eqb b 0x82 e
 
   pub unmarked : (b ≡ 0x82 → ⊥) → swaps b ≡ false
   unfolding swaps
@@ -60,33 +56,9 @@ module _ (version b : ℕ) where
   unfolding operator_in
   in_version e = by_byte version b e (λ l h. rw (le-leb 1 b l, le-leb b 4 h)) λ v s. rw s (or-true (within 1 4 b))
 
-  -- a mark, by the version
-  pub marked_in : swaps b ≡ true → version ≡ 2 → true ≡ operator_in version b
-  unfolding operator_in
-  marked_in e v = rw (e, eq-eqb version 2 v) (sym (or-true (within 1 4 b)))
-
-  -- any other byte, by its size
-  plain_in : (t : Bool) → swaps b ≡ false → within 1 4 b ≡ t → t ≡ operator_in version b
-  unfolding operator_in
-  plain_in t n e = rw (e, n) (go t (eqb version 2))
-    where
-      go : (x y : Bool) → x ≡ (x || (y && false))
-      go true y = refl
-      go false true = refl
-      go false false = refl
-
   above : 4 < b → within 1 4 b ≡ false
   above h = rw (lt-leb b 4 h) (and-false (leb 1 b))
 
   pub marked_out : swaps b ≡ true → (version ≡ 2 → ⊥) → false ≡ operator_in version b
   unfolding operator_in
   marked_out e v = let h = swaps_is b e in rw (above (omega arith), ne_eqb version 2 v)
-
-  pub below_out : b < 1 → false ≡ operator_in version b
-  below_out h = plain_in false (unmarked b (λ e. omega arith)) (rw (lt-leb 1 b h))
-
-  pub above_out : swaps b ≡ false → 4 < b → false ≡ operator_in version b
-  above_out n h = plain_in false n (above h)
-
-  pub between_in : 1 ≤ b → b ≤ 4 → true ≡ operator_in version b
-  between_in l h = plain_in true (unmarked b (λ e. omega arith)) (rw (le-leb 1 b l, le-leb b 4 h))

@@ -3,3 +3,4 @@ pub mod Tables
 pub mod Update
 pub mod Reply
 pub mod Memory
+pub mod Questions

@@ -5,4 +5,5 @@ pub mod byte;
 pub mod memory;
 pub mod numbers;
 pub mod operator;
+pub mod question;
 pub mod sizes;

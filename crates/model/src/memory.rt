@@ -6,9 +6,5 @@ ghost use Rattle.model.specs.Memory.{cleared};
 pub fn clear(memory: &mut [u32])
     ensures { memory.new ≡ cleared memory.old }
 {
-    let mut i: usize = 0;
-    while i < memory.len() {
-        memory[i] = 0;
-        i += 1;
-    }
+    memory.fill(0);
 }

@@ -10,11 +10,11 @@ pub fn wide(x: u32) -> usize
 pub fn least(n: usize, m: usize) -> usize
     ensures { result ≡ min n m }
 {
-    if n < m { n } else { m }
+    n.min(m)
 }
 
 pub fn size(v: i16) -> usize
     ensures { result ≡ nat_abs v }
 {
-    if v < 0 { 1 + (!v) as usize } else { v as usize }
+    usize::from(v.unsigned_abs())
 }
