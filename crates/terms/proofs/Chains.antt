@@ -1,10 +1,8 @@
 -- A chain whose links are `last_in` meets each id of its bucket: a look along it finds what a look at every id finds.
 -- Nothing here is about memory or about the mix.
 use Rattle.std.specs.Prelude.{if◌then◌else◌}
-use Rattle.std.proofs.Common.{◌≡◌, ℕ, zero, suc, ◌<◌, ◌≤◌, Bool, true, false, eqb, sym, refl, ap, ◌∙◌, ⊎_elim, le_of_suc-le-suc, not-suc-le-zero, eq-or-lt_of_le, arith, eq-eqb, ne_eqb, eqb-true}
+use Rattle.std.proofs.Common.{Option, Some, None, ◌≡◌, ℕ, zero, suc, ◌<◌, ◌≤◌, Bool, true, false, eqb, sym, refl, ap, ◌∙◌, ⊎_elim, le_of_suc-le-suc, not-suc-le-zero, eq-or-lt_of_le, arith, eq-eqb, ne_eqb, eqb-true}
 use borrow.Author.Tests.{eqb-false}
-use Rattle.terms.specs.declared.Found.{Found}
-use Rattle.terms.specs.declared.Found.TheVariants.{Here, Missing}
 use Rattle.terms.specs.Chain.{look}
 use Rattle.terms.specs.Holds.{last_in, seek}
 use Rattle.terms.proofs.Walks.{look-here, look_past}
@@ -34,7 +32,7 @@ last_same g h b zero e = refl
 last_same g h b (suc k) e = rw (e k (omega arith), last_same g h b k (λ i l. e i (omega arith)))
 
 module _ (test : ℕ → Bool) where
-  seek-here : (k : ℕ) → test k ≡ true → seek test (suc k) ≡ Here (suc k)
+  seek-here : (k : ℕ) → test k ≡ true → seek test (suc k) ≡ Some (suc k)
   unfolding seek
   seek-here k e = rw e
 
@@ -42,15 +40,15 @@ module _ (test : ℕ → Bool) where
   unfolding seek
   seek_past k e = rw e
 
-  pub seek_none : (k : ℕ) → ((i : ℕ) → i < k → test i ≡ false) → seek test k ≡ Missing
+  pub seek_none : (k : ℕ) → ((i : ℕ) → i < k → test i ≡ false) → seek test k ≡ None
   seek_none zero h = unfold seek in refl
   seek_none (suc k) h = seek_past k (h k (omega arith)) ∙ seek_none k (λ i l. h i (omega arith))
 
-  pub seek_one : (k i : ℕ) → i < k → test i ≡ true → ((j : ℕ) → j < k → test j ≡ true → j ≡ i) → seek test k ≡ Here (suc i)
+  pub seek_one : (k i : ℕ) → i < k → test i ≡ true → ((j : ℕ) → j < k → test j ≡ true → j ≡ i) → seek test k ≡ Some (suc i)
   seek_one zero i l e u = absurd (not-suc-le-zero l)
   seek_one (suc k) i l e u =
       ⊎_elim
-      (λ (p : i ≡ k). seek-here k (ap test (sym p) ∙ e) ∙ ap (λ (j : ℕ). Here (suc j)) (sym p))
+      (λ (p : i ≡ k). seek-here k (ap test (sym p) ∙ e) ∙ ap (λ (j : ℕ). Some (suc j)) (sym p))
       (λ (m : i < k). seek_past k (go m (test k) refl) ∙ seek_one k i m e (λ j q t. u j (omega arith) t))
       (eq-or-lt_of_le (le_of_suc-le-suc l))
     where
@@ -58,7 +56,7 @@ module _ (test : ℕ → Bool) where
       go m true q = let z : k ≡ i = u k (omega arith) q in absurd (omega arith)
       go m false q = q
 
-seek-suc : (test : ℕ → Bool) (k : ℕ) → seek test (suc k) ≡ (if test k then Here (suc k) else seek test k)
+seek-suc : (test : ℕ → Bool) (k : ℕ) → seek test (suc k) ≡ (if test k then Some (suc k) else seek test k)
 unfolding seek
 seek-suc test k = refl
 
@@ -78,7 +76,7 @@ look_last test link g b (suc k) h q =
     at_top : g k ≡ b → look test link k (last_in g b k) ≡ seek test k → look test link (suc k) (suc k) ≡ seek test (suc k)
     at_top e ih =
         look-here test link (suc k) k (omega arith)
-        ∙ ap (λ (f : Found). if test k then Here (suc k) else f) (ap (look test link k) (h k (omega arith) ∙ ap (λ (x : ℕ). last_in g x k) e) ∙ ih)
+        ∙ ap (λ (f : Option ℕ). if test k then Some (suc k) else f) (ap (look test link k) (h k (omega arith) ∙ ap (λ (x : ℕ). last_in g x k) e) ∙ ih)
         ∙ sym (seek-suc test k)
 
     go : (t : Bool) → eqb (g k) b ≡ t → look test link k (last_in g b k) ≡ seek test k → look test link (suc k) (last_in g b (suc k)) ≡ seek test (suc k)

@@ -1,5 +1,5 @@
 -- The laws of the store: what interning does where memory holds trees. No statement here names the mix.
-use Rattle.std.proofs.Common.{◌≡◌, ℕ, ◌+◌, ◌-◌, ◌<◌, ◌≤◌, Bool, true, false, ltb, ◌⊎◌, List, [], ◌∷◌, ◌++◌, length, take, sym, refl, ap, ◌∙◌, subst, subst₂, inl, inr, ⊎_elim, true≢false, not-suc-le-zero, add-one, arith, length-append, length-take, below_more, ltb-false, ltb-true, lt-ltb, le-leb}
+use Rattle.std.proofs.Common.{◌≡◌, ℕ, ◌+◌, ◌-◌, ◌<◌, ◌≤◌, Bool, true, false, ltb, ◌⊎◌, List, [], ◌∷◌, ◌++◌, length, take, sym, refl, ap, ◌∙◌, subst, inl, inr, ⊎_elim, true≢false, not-suc-le-zero, add-one, arith, length-append, length-take, below_more, ltb-false, ltb-true, lt-ltb, le-leb}
 use native.Mathlib.Nat.{min-le_left}
 use lib.ListN.{get_or-append}
 use lib.Seq.{get_or_at, take-append-le, take-length}
@@ -9,9 +9,9 @@ use Rattle.model.specs.Update.Tree.{cell, operator}
 use Rattle.terms.specs.declared.Node.{Node}
 use Rattle.terms.specs.declared.Kept.{Kept}
 use Rattle.terms.specs.Term.{alike}
-use Rattle.terms.specs.Store.{Says, gives, refused, kept, kept_of, node_of, node_at, args_of, eq_node, Out, out, intern_of, starts_at}
+use Rattle.terms.specs.Store.{Says, gives, refused, kept, node_of, node_at, args_of, eq_node, Out, out, intern_of, starts_at}
 use Rattle.terms.specs.Holds.{New, term}
-use Rattle.terms.specs.Stored.{In, tree, Ref, Arguments, Means, Known, Stored, Outcome, full, fine, Puts, Starts}
+use Rattle.terms.specs.Stored.{In, tree, Ref, Arguments, Means, Known, Stored, Answered, Puts, Starts}
 use Rattle.terms.proofs.Alike.{alike_refl, alike_sym, alike_trans}
 use Rattle.terms.proofs.Words.{eq_node_true, eq_node_same}
 use Rattle.terms.proofs.Nodes.{empty_nodes, present, absent, no_room, holds_more}
@@ -129,66 +129,71 @@ module _ (swaps : ℕ → Bool) (m : List ℕ) (count : ℕ) (ts : List Tree) (S
           room true q = absurd (never (kept (count + 1) (count + 1)) (adds w (ltb-true count 4096 q)).0)
           room false q = let l = ltb-false count 4096 q in omega (arith, S.held.room)
 
-  Result : Out → Type 0
-  Result o = Outcome swaps ts (t ∷ []) o.memory (kept_of o.answer).count (λ us. Ref swaps us (kept_of o.answer).id t)
+  Answer : Out → Type 0
+  Answer o = Answered swaps ts (t ∷ []) o.memory (λ (k : Kept). k.count) (λ (k : Kept) us. Ref swaps us k.id t) o.answer
 
-  found_result : (i : ℕ) → i < length ts → alike swaps t (tree ts i) ≡ true → Result (intern_of m count n)
-  unfolding Result
-  found_result i l e =
-      subst Result (sym (finds i (omega (arith, long)) e))
-      (fine ts S (grown_none swaps ts (t ∷ []) (λ x q.
-      in_alike swaps x (tree ts i) ts (alike_trans swaps x t (tree ts i) (in_one swaps x t q) e) (placed swaps ts i l)))
-      (record { some = omega arith; within = omega arith; is = ap (λ (k : ℕ). alike swaps t (tree ts k)) less ∙ e }))
+  found_answer : (i : ℕ) → i < length ts → alike swaps t (tree ts i) ≡ true → Answer (intern_of m count n)
+  unfolding Answer
+  found_answer i l e =
+      subst Answer (sym (finds i (omega (arith, long)) e)) (
+        ts,
+        S,
+        grown_none swaps ts (t ∷ []) (λ x q.
+            in_alike swaps x (tree ts i) ts (alike_trans swaps x t (tree ts i) (in_one swaps x t q) e) (placed swaps ts i l)),
+        record { some = omega arith; within = omega arith; is = ap (λ (k : ℕ). alike swaps t (tree ts k)) less ∙ e },
+      )
     where
       less : i + 1 - 1 ≡ i
       less = omega arith
 
-  added_result : (In swaps t ts → ⊥) → count < 4096 → Result (intern_of m count n)
-  unfolding Result
-  added_result w l =
+  added_answer : (In swaps t ts → ⊥) → count < 4096 → Answer (intern_of m count n)
+  unfolding Answer
+  added_answer w l =
       let a = adds w l in
-      subst (λ (k : Kept). Outcome swaps ts (t ∷ []) (intern_of m count n).memory k.count (λ us. Ref swaps us k.id t)) (sym (ap kept_of a.0))
-      (fine (ts ++ (t ∷ [])) a.1 (grown_one swaps ts t)
-      (record {
-        some = omega arith;
-        within = omega (arith, long_more swaps ts t, long);
-        is = ap (alike swaps t) (ap (tree (ts ++ (t ∷ []))) (less ∙ long) ∙ new_tree swaps ts t) ∙ alike_refl swaps t;
-      }))
+      subst (λ (s : Says Kept). Answered swaps ts (t ∷ []) (intern_of m count n).memory (λ (k : Kept). k.count) (λ (k : Kept) us. Ref swaps us k.id t) s) (sym a.0) (
+        ts ++ (t ∷ []),
+        a.1,
+        grown_one swaps ts t,
+        record {
+          some = omega arith;
+          within = omega (arith, long_more swaps ts t, long);
+          is = ap (alike swaps t) (ap (tree (ts ++ (t ∷ []))) (less ∙ long) ∙ new_tree swaps ts t) ∙ alike_refl swaps t;
+        },
+      )
     where
       less : count + 1 - 1 ≡ count
       less = omega arith
 
-  full_result : (In swaps t ts → ⊥) → 4096 ≤ count → Result (intern_of m count n)
-  unfolding Result
-  full_result w l =
-      subst Result (sym (refuses w l))
-      (full (omega arith) (record {
+  full_answer : (In swaps t ts → ⊥) → 4096 ≤ count → Answer (intern_of m count n)
+  unfolding Answer
+  full_answer w l =
+      subst Answer (sym (refuses w l))
+      (record {
         these = ts ++ (t ∷ []);
         once = once_more swaps ts t S.known.once (new_id w);
         many = omega (arith, long_more swaps ts t, long);
         among = λ x q. in_either swaps x ts (t ∷ []) q;
-      }))
+      })
 
   -- interning stores the tree, once for all that are alike, or there is no room
-  pub interns : Outcome swaps ts (t ∷ []) (intern_of m count n).memory (kept_of (intern_of m count n).answer).count (λ us. Ref swaps us (kept_of (intern_of m count n).answer).id t)
-  unfolding Result
+  pub interns : Answered swaps ts (t ∷ []) (intern_of m count n).memory (λ (k : Kept). k.count) (λ (k : Kept) us. Ref swaps us k.id t) (intern_of m count n).answer
+  unfolding Answer
   interns =
       ⊎_elim
-      (λ (p : (i : ℕ) × (i < length ts) × (alike swaps t (tree ts i) ≡ true)). found_result p.0 p.1 p.2)
+      (λ (p : (i : ℕ) × (i < length ts) × (alike swaps t (tree ts i) ≡ true)). found_answer p.0 p.1 p.2)
       (λ (w : In swaps t ts → ⊥). go w (ltb count 4096) refl)
       (in_or_not swaps t ts)
     where
-      go : (In swaps t ts → ⊥) → (b : Bool) → ltb count 4096 ≡ b → Result (intern_of m count n)
-      go w true p = added_result w (ltb-true count 4096 p)
-      go w false p = full_result w (ltb-false count 4096 p)
+      go : (In swaps t ts → ⊥) → (b : Bool) → ltb count 4096 ≡ b → Answer (intern_of m count n)
+      go w true p = added_answer w (ltb-true count 4096 p)
+      go w false p = full_answer w (ltb-false count 4096 p)
 
 -- what `put` promises, for trees
-pub puts : (m : List ℕ) (count kind payload : ℕ) (ids : List ℕ) (r : Kept) (m' : List ℕ)
-    → r ≡ kept_of (intern_of m count (node_of kind payload ids)).answer → m' ≡ (intern_of m count (node_of kind payload ids)).memory
-    → Puts m count kind payload ids r.count r.id m'
+pub puts : (m : List ℕ) (count kind payload : ℕ) (ids : List ℕ) (answer : Says Kept) (m' : List ℕ)
+    → out answer m' ≡ intern_of m count (node_of kind payload ids) → Puts m count kind payload ids answer m'
 unfolding Puts
-puts m count kind payload ids r m' e f swaps ts t S T =
-    subst₂ (λ (k : Kept) (x : List ℕ). Outcome swaps ts (t ∷ []) x k.count (λ us. Ref swaps us k.id t)) (sym e) (sym f)
+puts m count kind payload ids answer m' e swaps ts t S T =
+    subst (λ (o : Out). Answered swaps ts (t ∷ []) o.memory (λ (k : Kept). k.count) (λ (k : Kept) us. Ref swaps us k.id t) o.answer) (sym e)
     (interns swaps m count ts S (node_of kind payload ids) t T)
 
 -- what `is_start` promises, for trees

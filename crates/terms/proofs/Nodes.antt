@@ -1,11 +1,9 @@
 -- What interning does where memory holds a list of nodes. Of the mix only `bucket_lt` is used.
-use Rattle.std.proofs.Common.{◌≡◌, ℕ, suc, ◌+◌, ◌*◌, ◌<◌, ◌≤◌, Bool, true, false, eqb, List, [], ◌∷◌, ◌++◌, length, replicate, sym, refl, ap, ◌∙◌, subst, not-suc-le-zero, add-one, arith, length-append, below_more, lt-ltb, eqb-true}
+use Rattle.std.proofs.Common.{Option, Some, None, ◌≡◌, ℕ, suc, ◌+◌, ◌*◌, ◌<◌, ◌≤◌, Bool, true, false, eqb, List, [], ◌∷◌, ◌++◌, length, replicate, sym, refl, ap, ◌∙◌, subst, not-suc-le-zero, add-one, arith, length-append, below_more, lt-ltb, eqb-true}
 use lib.ListN.{length-replicate, get_or-replicate, get_or-append}
 use lib.Seq.{get_or_at}
 use borrow.Author.Tests.{eqb-false}
 use Rattle.terms.specs.declared.Node.{Node}
-use Rattle.terms.specs.declared.Found.{Found}
-use Rattle.terms.specs.declared.Found.TheVariants.{Here, Missing}
 use Rattle.terms.specs.Mix.{bucket_of, step_of}
 use Rattle.terms.specs.Chain.{look}
 use Rattle.terms.specs.Store.{gives, refused, kept, out, node_of, node_at, link_at, head_at, eq_node, appended, find_of, by_found, intern_of}
@@ -40,7 +38,7 @@ module _ (m : List ℕ) (count : ℕ) (ns : List Node) (H : Holds m count ns) (n
       ∙ look_last test (λ i. link_at m i) (bucket_in ns) (bucket_of n) count H.linked
       (λ i l e. ap bucket_of (sym (H.words i l) ∙ eq_node_true (node_at m i) n e))
 
-  by_seek : (f : Found) → seek test count ≡ f → intern_of m count n ≡ by_found m count n f
+  by_seek : (f : Option ℕ) → seek test count ≡ f → intern_of m count n ≡ by_found m count n f
   by_seek f e = sym (by_found_lem m count n H.long H.room (bucket_of n) _ f refl refl (found-seek ∙ e))
 
   -- a node that is there is found, and nothing changes
@@ -48,11 +46,11 @@ module _ (m : List ℕ) (count : ℕ) (ns : List Node) (H : Holds m count ns) (n
   unfolding test
   present i l e =
       let l' : i < count = subst (λ (k : ℕ). i < k) H.counted l in
-      by_seek (Here (suc i))
+      by_seek (Some (suc i))
       (seek_one test count i l' (eq_node_same (node_at m i) n (H.words i l' ∙ e))
       (λ j q t. H.once j i q l' (sym (H.words j q) ∙ eq_node_true (node_at m j) n t ∙ sym e)))
 
-  seek_new : New ns n → seek test count ≡ Missing
+  seek_new : New ns n → seek test count ≡ None
   unfolding test
   seek_new w =
       seek_none test count
@@ -60,11 +58,11 @@ module _ (m : List ℕ) (count : ℕ) (ns : List Node) (H : Holds m count ns) (n
 
   -- a new node, and no room
   pub no_room : New ns n → 4096 ≤ count → intern_of m count n ≡ out (refused 24) m
-  no_room w h = by_seek Missing (seek_new w) ∙ is_full m count n h
+  no_room w h = by_seek None (seek_new w) ∙ is_full m count n h
 
   -- a new node, and room: it is stored
   pub absent : New ns n → count < 4096 → intern_of m count n ≡ out (gives (kept (count + 1) (count + 1))) (appended m count n)
-  absent w h = by_seek Missing (seek_new w) ∙ rw (lt-ltb count 4096 h)
+  absent w h = by_seek None (seek_new w) ∙ rw (lt-ltb count 4096 h)
 
   more : List Node
   more = ns ++ (n ∷ [])

@@ -1,7 +1,8 @@
 -- The words of memory after a node is written and linked in; and what the comparison of two nodes says.
-use Rattle.std.proofs.Common.{◌≡◌, ℕ, zero, suc, ◌+◌, ◌*◌, ◌<◌, ◌≤◌, Bool, true, false, List, [], ◌∷◌, length, get_or, set, sym, refl, ap, ◌∙◌, not-suc-le-zero, add-zero, arith, length-set, get_or-set_other, get_or-set_same, eq-eqb, eqb-true}
+use Rattle.std.proofs.Common.{◌++◌, take, drop, append_assoc, ◌≡◌, ℕ, zero, suc, ◌+◌, ◌*◌, ◌<◌, ◌≤◌, Bool, true, false, List, [], ◌∷◌, length, get_or, set, sym, refl, ap, ◌∙◌, not-suc-le-zero, add-zero, arith, length-set, get_or-set_other, get_or-set_same, eq-eqb, eqb-true}
 use mathlib.Core.Bool.{and-eq-true_iff}
-use lib.Seq.{sets, length-sets}
+use borrow.Rule.Slice.PartMut.{put_mid}
+use lib.Seq.{sets, sets-eq, length-sets, drop-drop}
 use Rattle.terms.specs.declared.Node.{Node}
 use Rattle.terms.specs.Store.{node_at, link_at, head_at, args_of, eq_node, written, linked_in}
 
@@ -24,16 +25,13 @@ sets_at (v ∷ vs) l i (suc k) p h =
     ap (λ (x : ℕ). get_or (sets (set l i v) (suc i) vs) x 0) e
     ∙ sets_at vs (set l i v) (suc i) k (omega arith) (simp length-set (omega arith))
 
--- six stores, as code makes them
-pub six_sets : (l : List ℕ) (b v0 v1 v2 v3 v4 v5 : ℕ)
-    → set (set (set (set (set (set l b v0) (b + 1) v1) (b + 2) v2) (b + 3) v3) (b + 4) v4) (b + 5) v5 ≡ sets l b (v0 ∷ v1 ∷ v2 ∷ v3 ∷ v4 ∷ v5 ∷ [])
-six_sets l b v0 v1 v2 v3 v4 v5 =
-    let e1 : b + 1 ≡ suc b = omega arith in
-    let e2 : b + 2 ≡ suc (suc b) = omega arith in
-    let e3 : b + 3 ≡ suc (suc (suc b)) = omega arith in
-    let e4 : b + 4 ≡ suc (suc (suc (suc b))) = omega arith in
-    let e5 : b + 5 ≡ suc (suc (suc (suc (suc b)))) = omega arith in
-    λ k. set (set (set (set (set (set l b v0) (e1 k) v1) (e2 k) v2) (e3 k) v3) (e4 k) v4) (e5 k) v5
+-- the words at place i, as code copies them there
+pub copied : (vs l ys : List ℕ) (i k : ℕ) → k ≡ length vs → i + length vs ≤ length l → ys ≡ vs → put_mid i k l ys ≡ sets l i vs
+copied vs l ys i k e h q =
+    rw (q, e)
+    (ap (λ (r : List ℕ). take i l ++ (vs ++ r)) (drop-drop (length vs) i l)
+    ∙ sym (append_assoc (take i l) vs (drop (i + length vs) l))
+    ∙ sym (sets-eq vs l i h))
 
 -- ---- a node that is written
 

@@ -1,10 +1,8 @@
 -- What it is that memory holds a list of nodes.
 -- An equation for each word of the chains: a link, and a head, is the cursor of the last earlier id of the same bucket.
-use Rattle.std.specs.Prelude.{◌≡◌, ℕ, zero, suc, ◌<◌, ◌≤◌, Bool, List, [], length, ◌==◌, ◌≢◌, slice_index_or, if◌then◌else◌}
+use Rattle.std.specs.Prelude.{Option, Some, None, ◌≡◌, ℕ, zero, suc, ◌<◌, ◌≤◌, Bool, List, [], length, ◌==◌, ◌≢◌, slice_index_or, if◌then◌else◌}
 use Rattle.model.specs.Memory.{term_words}
 use Rattle.terms.specs.declared.Node.{Node}
-use Rattle.terms.specs.declared.Found.{Found}
-use Rattle.terms.specs.declared.Found.TheVariants.{Here, Missing}
 use Rattle.terms.specs.Mix.{bucket_of}
 use Rattle.terms.specs.Store.{node_of, node_at, link_at, head_at}
 
@@ -14,9 +12,9 @@ last_in g b zero = 0
 last_in g b (suc k) = let r = last_in g b k in if g k == b then suc k else r
 
 -- the last id below k that passes a test, plus 1
-unfoldable pub seek : (ℕ → Bool) → ℕ → Found
-seek test zero = Missing
-seek test (suc k) = let r = seek test k in if test k then Here (suc k) else r
+unfoldable pub seek : (ℕ → Bool) → ℕ → Option ℕ
+seek test zero = None
+seek test (suc k) = let r = seek test k in if test k then Some (suc k) else r
 
 -- the node of an id
 abbrev pub term : List Node → ℕ → Node

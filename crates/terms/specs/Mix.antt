@@ -1,19 +1,10 @@
 -- The mix of a node's words, and the bucket that it gives. Nothing but time depends on it.
-use Rattle.std.specs.Prelude.{ℕ, ◌+◌, ◌/◌, ◌%◌, ◌^◌}
+use Rattle.std.specs.Prelude.{ℕ, ◌+◌, ◌*◌, ◌/◌, ◌%◌, ◌^◌}
 use Rattle.terms.specs.declared.Node.{Node}
 
-unfoldable pub eightfold_of : ℕ → ℕ
-eightfold_of h =
-    let two = (h + h) % 2 ^ 32 in
-    let four = (two + two) % 2 ^ 32 in
-    (four + four) % 2 ^ 32
-
--- one more word: 129 times the sum, at 32 bits
+-- one more word, at 32 bits
 unfoldable pub step_of : ℕ → ℕ → ℕ
-step_of h x =
-    let s = (h + x) % 2 ^ 32 in
-    let e = eightfold_of (eightfold_of s) in
-    ((e + e) % 2 ^ 32 + s) % 2 ^ 32
+step_of h x = (h + x) % 2 ^ 32 * 129 % 2 ^ 32
 
 -- the top 12 bits
 unfoldable pub bucket_of : Node → ℕ

@@ -1,15 +1,12 @@
 -- What each entry of the store does, on lists, for every input. The layout is that of docs/LAYOUT.md, "Terms".
-use Rattle.std.specs.Prelude.{ℕ, ◌+◌, ◌-◌, ◌*◌, Bool, true, false, ◌&&◌, List, [], ◌∷◌, length, ◌==◌, nat_le, nat_lt, slice_index, slice_set, if◌then◌else◌}
+use Rattle.std.specs.Prelude.{Option, Some, None, Result, Ok, Err, ℕ, ◌+◌, ◌-◌, ◌*◌, Bool, ◌&&◌, List, [], ◌∷◌, length, ◌==◌, nat_le, nat_lt, slice_index, slice_set, if◌then◌else◌}
 use Rattle.std.proofs.lemmas.List.Edits.{sets}
 use Rattle.model.specs.Memory.{term_words}
 use Rattle.terms.specs.declared.Node.{Node}
 use Rattle.terms.specs.declared.Kept.{Kept}
-use Rattle.terms.specs.declared.Found.{Found}
-use Rattle.terms.specs.declared.Found.TheVariants.{Here, Missing}
-use Rattle.terms.specs.declared.Interned.{Interned}
-use Rattle.terms.specs.declared.Interned.TheVariants.{At, Full, Short as ShortMemory}
-use Rattle.terms.specs.declared.Start.{Start}
-use Rattle.terms.specs.declared.Start.TheVariants.{Yes, No, Short as ShortSlice}
+use Rattle.terms.specs.declared.InternError.{InternError}
+use Rattle.terms.specs.declared.InternError.TheVariants.{Full, Short}
+use Rattle.terms.specs.declared.ShortMemory.{ShortMemory}
 use Rattle.terms.specs.Chain.{look}
 use Rattle.terms.specs.Mix.{bucket_of}
 
@@ -20,27 +17,17 @@ pub data Says (A : Type 0) : Type 0 where
   gives : A → Says A
   refused : ℕ → Says A
 
-abbrev pub says_of : Interned → Says Kept
-says_of (At k) = gives k
-says_of Full = refused 24
-says_of ShortMemory = refused 25
+abbrev pub says_of : Result Kept InternError → Says Kept
+says_of (Ok k) = gives k
+says_of (Err Full) = refused 24
+says_of (Err Short) = refused 25
 
-abbrev pub start_says : Start → Says Bool
-start_says Yes = gives true
-start_says No = gives false
-start_says ShortSlice = refused 25
+abbrev pub start_says : Result Bool ShortMemory → Says Bool
+start_says (Ok b) = gives b
+start_says (Err e) = refused 25
 
 abbrev pub kept : ℕ → ℕ → Kept
 kept count id = record { count = count; id = id }
-
--- the same in two numbers: of a refusal the count is above 4,096, and the question stands for the id
-abbrev pub kept_of : Says Kept → Kept
-kept_of (gives k) = k
-kept_of (refused question) = kept 4097 question
-
--- and read back
-abbrev pub kept_says : Kept → Says Kept
-kept_says k = if nat_le k.count 4096 then gives k else refused k.id
 
 -- ---- nodes
 
@@ -99,16 +86,16 @@ abbrev pub out : Says Kept → List ℕ → Out
 out a m = record { answer = a; memory = m }
 
 -- what a walk finds of n from a cursor, among the ids below count
-unfoldable pub find_of : List ℕ → ℕ → ℕ → Node → Found
+unfoldable pub find_of : List ℕ → ℕ → ℕ → Node → Option ℕ
 find_of m at count n = look (λ i. eq_node (node_at m i) n) (λ i. link_at m i) count at
 
 -- n is stored, as the last of count + 1
 abbrev pub appended : List ℕ → ℕ → Node → List ℕ
 appended m count n = linked_in m count (bucket_of n) (head_at m (bucket_of n)) n
 
-abbrev pub by_found : List ℕ → ℕ → Node → Found → Out
-by_found m count n (Here r) = out (gives (kept count r)) m
-by_found m count n Missing =
+abbrev pub by_found : List ℕ → ℕ → Node → Option ℕ → Out
+by_found m count n (Some r) = out (gives (kept count r)) m
+by_found m count n None =
     if nat_lt count 4096 then out (gives (kept (count + 1) (count + 1))) (appended m count n) else out (refused 24) m
 
 unfoldable pub intern_of : List ℕ → ℕ → Node → Out

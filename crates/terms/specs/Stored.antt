@@ -7,8 +7,9 @@ use Rattle.model.specs.Update.{Tree, Trees}
 use Rattle.model.specs.Update.Tree.{cell, number, constant, operator}
 use Rattle.model.specs.Update.Trees.{nil, cons}
 use Rattle.terms.specs.declared.Node.{Node}
+use Rattle.terms.specs.declared.Kept.{Kept}
 use Rattle.terms.specs.Term.{alike, among}
-use Rattle.terms.specs.Store.{node_of, args_of}
+use Rattle.terms.specs.Store.{Says, gives, refused, node_of, args_of}
 use Rattle.terms.specs.Holds.{Holds, term}
 
 -- the tree of an id
@@ -80,16 +81,21 @@ module _ (swaps : ℕ → Bool) where
     full : 4096 < count → Over ts vs → Outcome ts vs m count P
     fine : (us : List Tree) → Stored m count us → Grown ts vs us → P us → Outcome ts vs m count P
 
+  -- the same of an answer: full, or memory holds them all, as many as the answer counts, and P of the answer and what it holds
+  abbrev pub Answered : {A : Type 0} → List Tree → List Tree → List ℕ → (A → ℕ) → (A → List Tree → Type 0) → Says A → Type 0
+  Answered ts vs m count P (gives a) = (us : List Tree) × Stored m (count a) us × Grown ts vs us × P a us
+  Answered ts vs m count P (refused question) = Over ts vs
+
 -- the ids of an operator's arguments as they are stored: where it may swap, the smaller of the two first
 unfoldable pub sorted : Bool → List ℕ → List ℕ
 sorted swap ids =
     cond (swap && nat_lt (slice_index ids 1) (slice_index ids 0)) (slice_index ids 1 ∷ slice_index ids 0 ∷ slice_index ids 2 ∷ slice_index ids 3 ∷ []) ids
 
 -- in memory that holds trees, a node that is the tree t over them: t is stored, once, whatever operators may swap
-unfoldable pub Puts : List ℕ → ℕ → ℕ → ℕ → List ℕ → ℕ → ℕ → List ℕ → Type 0
-Puts m count kind payload ids count' id m' =
+unfoldable pub Puts : List ℕ → ℕ → ℕ → ℕ → List ℕ → Says Kept → List ℕ → Type 0
+Puts m count kind payload ids answer m' =
     (swaps : ℕ → Bool) (ts : List Tree) (t : Tree) → Stored swaps m count ts → Means swaps ts (node_of kind payload ids) t
-    → Outcome swaps ts (t ∷ []) m' count' (λ us. Ref swaps us id t)
+    → Answered swaps ts (t ∷ []) m' (λ k. k.count) (λ k us. Ref swaps us k.id t) answer
 
 -- whether the term with id plus 1 = r is the starting cell c of array a
 unfoldable pub Starts : List ℕ → ℕ → ℕ → ℕ → Bool → Type 0

@@ -2,15 +2,14 @@
 #![tactic(auto)]
 
 ghost use Rattle.std.specs.Prelude.{◌≡◌, ◌+◌, ◌*◌, ◌<◌, ◌≤◌, length};
-ghost use Rattle.terms.specs.Mix.{eightfold_of, step_of, bucket_of};
-ghost use Rattle.terms.specs.Store.{node_of, node_at, eq_node, written, linked_in, find_of, says_of, start_says, out, intern_of, kept_of, starts_at};
+ghost use Rattle.terms.specs.Mix.{step_of, bucket_of};
+ghost use Rattle.terms.specs.Store.{node_of, node_at, eq_node, written, linked_in, find_of, says_of, start_says, out, intern_of, starts_at};
 ghost use Rattle.model.specs.Memory.{term_words};
 
-use model::numbers::wide;
 use model::sizes::{MOST_TERMS, TERM_WORDS};
 
 // The words of a term: kind, payload and four arguments, each an id plus 1, or 0 where there is none.
-#[derive(Clone, Copy)]
+#[derive(Clone, Copy, Debug, PartialEq, Eq)]
 pub struct Node {
     pub kind: u32,
     pub payload: u32,
@@ -20,56 +19,35 @@ pub struct Node {
     pub a3: u32,
 }
 
-// The number of terms after a call, and the id plus 1. As `put` answers it, a number above 4,096 is a refusal, and the id is then
-// the number of the question.
-#[derive(Clone, Copy)]
+// The number of terms after a call, and the term's id plus 1.
+#[derive(Clone, Copy, Debug, PartialEq, Eq)]
 pub struct Kept {
     pub count: u32,
     pub id: u32,
 }
 
-#[derive(Clone, Copy)]
-pub enum Interned {
-    At(Kept),
+// Why a term is not stored.
+#[derive(Clone, Copy, Debug, PartialEq, Eq)]
+pub enum InternError {
     // No room for one more: question 24.
     Full,
     // Too little memory: question 25.
     Short,
 }
 
-#[derive(Clone, Copy)]
-pub enum Start {
-    Yes,
-    No,
-    // Too little memory: question 25.
-    Short,
-}
+// Too little memory: question 25.
+#[derive(Clone, Copy, Debug, PartialEq, Eq)]
+pub struct ShortMemory;
 
-// What a walk of a chain finds: the id plus 1.
-#[derive(Clone, Copy)]
-enum Found {
-    Here(u32),
-    Missing,
-}
-
-fn eightfold(h: u32) -> u32
-    ensures { result ≡ eightfold_of h }
-{
-    let two = std::num::wrapping_add_u32(h, h);
-    let four = std::num::wrapping_add_u32(two, two);
-    std::num::wrapping_add_u32(four, four)
-}
-
-// 129 times the sum: the top bits then depend on every word.
+// The top bits of the product depend on every word.
+#[tactic(auto, unfolding(crate::specs::Mix::step_of))]
 fn step(h: u32, x: u32) -> u32
     ensures { result ≡ step_of h x }
 {
-    let s = std::num::wrapping_add_u32(h, x);
-    let e = eightfold(eightfold(s));
-    let d = std::num::wrapping_add_u32(e, e);
-    std::num::wrapping_add_u32(d, s)
+    h.wrapping_add(x).wrapping_mul(129)
 }
 
+#[tactic(auto, unfolding(crate::specs::Mix::bucket_of))]
 fn bucket(node: Node) -> usize
     ensures { (result ≡ bucket_of node) × (result < 4096) }
 {
@@ -78,34 +56,32 @@ fn bucket(node: Node) -> usize
     let h3 = step(h2, node.a1);
     let h4 = step(h3, node.a2);
     let h5 = step(h4, node.a3);
-    wide(h5 / 1048576)
+    (h5 >> 20) as usize
+}
+
+#[tactic(auto, unfolding(crate::specs::Store::node_at))]
+fn node_at(memory: &[u32], i: usize) -> Node
+    requires { i * 8 + 8 ≤ length memory.now }
+    ensures { result ≡ node_at memory.now i }
+{
+    let b = i * 8;
+    Node {
+        kind: memory[b],
+        payload: memory[b + 1],
+        a0: memory[b + 2],
+        a1: memory[b + 3],
+        a2: memory[b + 4],
+        a3: memory[b + 5],
+    }
 }
 
 // All six words are compared: equal mixes prove nothing.
+#[tactic(auto, unfolding(crate::specs::Store::eq_node))]
 fn is_node(memory: &[u32], i: usize, node: Node) -> bool
     requires { i * 8 + 8 ≤ length memory.now }
     ensures { result ≡ eq_node (node_at memory.now i) node }
 {
-    let b = i * 8;
-    if memory[b] != node.kind {
-        return false;
-    }
-    if memory[b + 1] != node.payload {
-        return false;
-    }
-    if memory[b + 2] != node.a0 {
-        return false;
-    }
-    if memory[b + 3] != node.a1 {
-        return false;
-    }
-    if memory[b + 4] != node.a2 {
-        return false;
-    }
-    if memory[b + 5] != node.a3 {
-        return false;
-    }
-    true
+    node_at(memory, i) == node
 }
 
 fn write(memory: &mut [u32], i: usize, node: Node)
@@ -113,12 +89,8 @@ fn write(memory: &mut [u32], i: usize, node: Node)
     ensures { memory.new ≡ written memory.old i node }
 {
     let b = i * 8;
-    memory[b] = node.kind;
-    memory[b + 1] = node.payload;
-    memory[b + 2] = node.a0;
-    memory[b + 3] = node.a1;
-    memory[b + 4] = node.a2;
-    memory[b + 5] = node.a3;
+    let words = [node.kind, node.payload, node.a0, node.a1, node.a2, node.a3];
+    memory[b..b + 6].copy_from_slice(&words);
 }
 
 // Writes a node at id `count`, in front of the chain of bucket `b`, which began with `start`.
@@ -126,107 +98,87 @@ fn append(memory: &mut [u32], count: u32, b: usize, start: u32, node: Node)
     requires { (count < 4096) × (b < 4096) × (term_words ≤ length memory.old) }
     ensures { memory.new ≡ linked_in memory.old count b start node }
 {
-    let i = wide(count);
+    let i = count as usize;
     write(memory, i, node);
     memory[i * 8 + 6] = start;
     memory[b * 8 + 7] = count + 1;
 }
 
-// Links of a store go down, so what is still to be met lies below `top`; a cursor that does not ends the walk.
-fn find(memory: &[u32], start: u32, count: u32, node: Node) -> Found
+// The id plus 1. Links of a store go down, so what is still to be met lies below `top`; a cursor that does not ends the walk.
+fn find(memory: &[u32], start: u32, count: u32, node: Node) -> Option<u32>
     requires { (count ≤ 4096) × (term_words ≤ length memory.now) }
     ensures { result ≡ find_of memory.now start count node }
 {
     let mut at = start;
     let mut top = count;
-    while at != 0 {
-        if top < at {
-            return Found::Missing;
-        }
+    while at != 0 && at <= top {
         let i = at - 1;
-        let k = wide(i);
+        let k = i as usize;
         let alike = is_node(memory, k, node);
         if alike {
-            return Found::Here(at);
+            return Some(at);
         }
         at = memory[k * 8 + 6];
         top = i;
     }
-    Found::Missing
+    None
 }
 
 // The term of a node, stored where it is not yet.
-pub fn intern(memory: &mut [u32], count: u32, node: Node) -> Interned
+pub fn intern(memory: &mut [u32], count: u32, node: Node) -> Result<Kept, InternError>
     ensures { out (says_of result) memory.new ≡ intern_of memory.old count node }
 {
     if memory.len() < TERM_WORDS {
-        return Interned::Short;
+        return Err(InternError::Short);
     }
     if count > MOST_TERMS {
-        return Interned::Full;
+        return Err(InternError::Full);
     }
     let b = bucket(node);
     let start = memory[b * 8 + 7];
-    let found = find(memory, start, count, node);
-    match found {
-        Found::Here(r) => Interned::At(Kept {
-            count: count,
-            id: r,
-        }),
-        Found::Missing => {
-            if count >= MOST_TERMS {
-                return Interned::Full;
-            }
-            append(memory, count, b, start, node);
-            Interned::At(Kept {
-                count: count + 1,
-                id: count + 1,
-            })
-        }
+    if let Some(id) = find(memory, start, count, node) {
+        return Ok(Kept { count, id });
     }
+    if count >= MOST_TERMS {
+        return Err(InternError::Full);
+    }
+    append(memory, count, b, start, node);
+    Ok(Kept {
+        count: count + 1,
+        id: count + 1,
+    })
 }
 
-// `intern` for callers that hand its answer on: two numbers and no enum.
-pub fn put(memory: &mut [u32], count: u32, kind: u32, payload: u32, ids: [u32; 4]) -> Kept
-    ensures result { result ≡ kept_of (intern_of memory.old count (node_of kind payload ids)).answer }
-    ensures memory { memory.new ≡ (intern_of memory.old count (node_of kind payload ids)).memory }
+// `intern` for callers that have the node's words one by one.
+pub fn put(
+    memory: &mut [u32],
+    count: u32,
+    kind: u32,
+    payload: u32,
+    ids: [u32; 4],
+) -> Result<Kept, InternError>
+    ensures { out (says_of result) memory.new ≡ intern_of memory.old count (node_of kind payload ids) }
 {
     let node = Node {
-        kind: kind,
-        payload: payload,
+        kind,
+        payload,
         a0: ids[0],
         a1: ids[1],
         a2: ids[2],
         a3: ids[3],
     };
-    let interned = intern(memory, count, node);
-    match interned {
-        Interned::At(k) => k,
-        Interned::Full => Kept {
-            count: 4097,
-            id: 24,
-        },
-        Interned::Short => Kept {
-            count: 4097,
-            id: 25,
-        },
-    }
+    intern(memory, count, node)
 }
 
 // Whether the term with id plus 1 = r is the starting cell c of array a. No store has a term 0 or one above 4,096.
-pub fn is_start(memory: &[u32], r: u32, a: u32, c: u32) -> Start
+#[tactic(auto, unfolding(crate::specs::Store::starts_at))]
+pub fn is_start(memory: &[u32], r: u32, a: u32, c: u32) -> Result<bool, ShortMemory>
     ensures { start_says result ≡ starts_at memory.now r a c }
 {
     if memory.len() < TERM_WORDS {
-        return Start::Short;
+        return Err(ShortMemory);
     }
-    if r == 0 {
-        return Start::No;
-    }
-    if r > MOST_TERMS {
-        return Start::No;
-    }
-    let node = Node {
+    let start = Node {
         kind: 16,
         payload: a,
         a0: c,
@@ -234,6 +186,5 @@ pub fn is_start(memory: &[u32], r: u32, a: u32, c: u32) -> Start
         a2: 0,
         a3: 0,
     };
-    let alike = is_node(memory, wide(r - 1), node);
-    if alike { Start::Yes } else { Start::No }
+    Ok(0 < r && r <= MOST_TERMS && is_node(memory, (r - 1) as usize, start))
 }

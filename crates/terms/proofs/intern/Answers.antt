@@ -17,17 +17,17 @@ returns-then-count-ge-MOST_TERMS c =
     let s = c.args in
     let b = c.bucket-b in
     sym (is_full s.memory.now s.count s.node (omega arith))
-    ∙ by_found_lem s.memory.now s.count s.node (omega arith) (omega arith) b.result _ _ b.ensures.0 c.find-found.ensures c.in-Missing.is
+    ∙ by_found_lem s.memory.now s.count s.node (omega arith) (omega arith) b.result _ _ b.ensures.0 c.find.ensures c.in_default.is
 
-pub returns-in-Here : goal.returns-in-Here
-returns-in-Here c =
+pub returns-in-Some : goal.returns-in-Some
+returns-in-Some c =
     let s = c.args in
     let b = c.bucket-b in
-    by_found_lem s.memory.now s.count s.node (omega arith) (omega arith) b.result _ _ b.ensures.0 c.find-found.ensures c.in-Here.is
+    by_found_lem s.memory.now s.count s.node (omega arith) (omega arith) b.result _ _ b.ensures.0 c.find.ensures c.in-Some.is
 
-pub returns-else-count-ge-MOST_TERMS : goal.returns-else-count-ge-MOST_TERMS
-returns-else-count-ge-MOST_TERMS c =
+pub returns : goal.returns
+returns c =
     let s = c.args in
     let b = c.bucket-b in
     sym (is_stored s.memory.now s.count s.node b.result c.append.new.memory (omega arith) b.ensures.0 c.append.ensures)
-    ∙ by_found_lem s.memory.now s.count s.node (omega arith) (omega arith) b.result _ _ b.ensures.0 c.find-found.ensures c.in-Missing.is
+    ∙ by_found_lem s.memory.now s.count s.node (omega arith) (omega arith) b.result _ _ b.ensures.0 c.find.ensures c.in_default.is
