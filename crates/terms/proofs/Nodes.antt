@@ -1,5 +1,5 @@
 -- What interning does where memory holds a list of nodes. Of the mix only `bucket_lt` is used.
-use Rattle.std.proofs.Common.{Option, Some, None, ◌≡◌, ℕ, suc, ◌+◌, ◌*◌, ◌<◌, ◌≤◌, Bool, true, false, eqb, List, [], ◌∷◌, ◌++◌, length, replicate, sym, refl, ap, ◌∙◌, subst, not-suc-le-zero, add-one, arith, length-append, below_more, lt-ltb, eqb-true}
+use Rattle.std.proofs.Common.{le-leb, le-ltb, Option, Some, None, ◌≡◌, ℕ, suc, ◌+◌, ◌*◌, ◌<◌, ◌≤◌, Bool, true, false, eqb, List, [], ◌∷◌, ◌++◌, length, replicate, sym, refl, ap, ◌∙◌, subst, not-suc-le-zero, add-one, arith, length-append, below_more, lt-ltb, eqb-true}
 use lib.ListN.{length-replicate, get_or-replicate, get_or-append}
 use lib.Seq.{get_or_at}
 use borrow.Author.Tests.{eqb-false}
@@ -8,7 +8,6 @@ use Rattle.terms.specs.Mix.{bucket_of, step_of}
 use Rattle.terms.specs.Chain.{look}
 use Rattle.terms.specs.Store.{gives, refused, kept, out, node_of, node_at, link_at, head_at, eq_node, appended, find_of, by_found, intern_of}
 use Rattle.terms.specs.Holds.{Holds, New, term, bucket_in, last_in, seek}
-use Rattle.terms.proofs.Cases.{by_found_lem, is_full}
 use Rattle.terms.proofs.Chains.{last_here, last_past, last_same, seek_none, seek_one, look_last}
 use Rattle.terms.proofs.Words.{written-there, written-before, linked-length, linked-node, link_old, link_new, head_old, head_new, eq_node_true, eq_node_same, eq_node-other}
 
@@ -39,7 +38,8 @@ module _ (m : List ℕ) (count : ℕ) (ns : List Node) (H : Holds m count ns) (n
       (λ i l e. ap bucket_of (sym (H.words i l) ∙ eq_node_true (node_at m i) n e))
 
   by_seek : (f : Option ℕ) → seek test count ≡ f → intern_of m count n ≡ by_found m count n f
-  by_seek f e = sym (by_found_lem m count n H.long H.room (bucket_of n) _ f refl refl (found-seek ∙ e))
+  unfolding intern_of
+  by_seek f e = rw (le-leb 32768 (length m) H.long, le-leb count 4096 H.room) (ap (by_found m count n) (found-seek ∙ e))
 
   -- a node that is there is found, and nothing changes
   pub present : (i : ℕ) → i < length ns → term ns i ≡ n → intern_of m count n ≡ out (gives (kept count (suc i))) m
@@ -58,7 +58,7 @@ module _ (m : List ℕ) (count : ℕ) (ns : List Node) (H : Holds m count ns) (n
 
   -- a new node, and no room
   pub no_room : New ns n → 4096 ≤ count → intern_of m count n ≡ out (refused 24) m
-  no_room w h = by_seek None (seek_new w) ∙ is_full m count n h
+  no_room w h = by_seek None (seek_new w) ∙ rw (le-ltb count 4096 h)
 
   -- a new node, and room: it is stored
   pub absent : New ns n → count < 4096 → intern_of m count n ≡ out (gives (kept (count + 1) (count + 1))) (appended m count n)

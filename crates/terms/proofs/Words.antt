@@ -1,8 +1,7 @@
 -- The words of memory after a node is written and linked in; and what the comparison of two nodes says.
-use Rattle.std.proofs.Common.{◌++◌, take, drop, append_assoc, ◌≡◌, ℕ, zero, suc, ◌+◌, ◌*◌, ◌<◌, ◌≤◌, Bool, true, false, List, [], ◌∷◌, length, get_or, set, sym, refl, ap, ◌∙◌, not-suc-le-zero, add-zero, arith, length-set, get_or-set_other, get_or-set_same, eq-eqb, eqb-true}
+use Rattle.std.proofs.Common.{◌≡◌, ℕ, zero, suc, ◌+◌, ◌*◌, ◌<◌, ◌≤◌, Bool, true, false, List, [], ◌∷◌, length, get_or, set, sym, refl, ap, ◌∙◌, not-suc-le-zero, add-zero, arith, length-set, get_or-set_other, get_or-set_same, eq-eqb, eqb-true}
 use mathlib.Core.Bool.{and-eq-true_iff}
-use borrow.Rule.Slice.PartMut.{put_mid}
-use lib.Seq.{sets, sets-eq, length-sets, drop-drop}
+use lib.Seq.{sets, length-sets}
 use Rattle.terms.specs.declared.Node.{Node}
 use Rattle.terms.specs.Store.{node_at, link_at, head_at, args_of, eq_node, written, linked_in}
 
@@ -24,14 +23,6 @@ sets_at (v ∷ vs) l i (suc k) p h =
     let e : i + suc k ≡ suc i + k = omega arith in
     ap (λ (x : ℕ). get_or (sets (set l i v) (suc i) vs) x 0) e
     ∙ sets_at vs (set l i v) (suc i) k (omega arith) (simp length-set (omega arith))
-
--- the words at place i, as code copies them there
-pub copied : (vs l ys : List ℕ) (i k : ℕ) → k ≡ length vs → i + length vs ≤ length l → ys ≡ vs → put_mid i k l ys ≡ sets l i vs
-copied vs l ys i k e h q =
-    rw (q, e)
-    (ap (λ (r : List ℕ). take i l ++ (vs ++ r)) (drop-drop (length vs) i l)
-    ∙ sym (append_assoc (take i l) vs (drop (i + length vs) l))
-    ∙ sym (sets-eq vs l i h))
 
 -- ---- a node that is written
 
@@ -115,12 +106,6 @@ module _ (m : List ℕ) (i b start : ℕ) (n : Node) where
   unfolding linked_in
   head_new h = get_or-set_same on (b * 8 + 7) (i + 1) 0 (simp length-set (omega (arith, written-length m i n)))
 
--- the two stores behind the node's, as code makes them: id i at place p, and q the head
-pub linked_by : (m w : List ℕ) (i count b start : ℕ) (n : Node) (p q v : ℕ) → i ≡ count → w ≡ written m i n → p ≡ count * 8 + 6 → q ≡ b * 8 + 7 → v ≡ count + 1
-    → set (set w p start) q v ≡ linked_in m count b start n
-unfolding linked_in
-linked_by m w i count b start n p q v e f g h k = rw (f, e, g, h, k)
-
 -- ---- the comparison
 
 pub eq_node_true : (x y : Node) → eq_node x y ≡ true → x ≡ y
@@ -153,13 +138,3 @@ eq_node-other x y h = go (eq_node x y) refl
     go : (t : Bool) → eq_node x y ≡ t → eq_node x y ≡ false
     go true e = absurd (h (eq_node_true x y e))
     go false e = e
-
--- one part that differs decides
-pub apart_by : (part : Node → ℕ) (x y : Node) → (part x ≡ part y → ⊥) → false ≡ eq_node x y
-apart_by part x y h = sym (eq_node-other x y (λ e. h (ap part e)))
-
-pub alike_by : (m : List ℕ) (i : ℕ) (n : Node) → get_or m (i * 8) 0 ≡ n.kind → get_or m (i * 8 + 1) 0 ≡ n.payload
-    → get_or m (i * 8 + 2) 0 ≡ n.a0 → get_or m (i * 8 + 3) 0 ≡ n.a1 → get_or m (i * 8 + 4) 0 ≡ n.a2 → get_or m (i * 8 + 5) 0 ≡ n.a3 → true ≡ eq_node (node_at m i) n
-unfolding node_at
-alike_by m i n e1 e2 e3 e4 e5 e6 =
-    sym (eq_node_same (node_at m i) n (λ k. record { kind = e1 k; payload = e2 k; a0 = e3 k; a1 = e4 k; a2 = e5 k; a3 = e6 k }))

@@ -84,16 +84,23 @@ fn is_node(memory: &[u32], i: usize, node: Node) -> bool
     node_at(memory, i) == node
 }
 
+// Word by word: copied in at once, the words stand in an array on the stack first, and `put` takes a sixteenth longer.
+#[tactic(auto, unfolding(crate::specs::Store::written))]
 fn write(memory: &mut [u32], i: usize, node: Node)
     requires { i * 8 + 8 ≤ length memory.old }
     ensures { memory.new ≡ written memory.old i node }
 {
     let b = i * 8;
-    let words = [node.kind, node.payload, node.a0, node.a1, node.a2, node.a3];
-    memory[b..b + 6].copy_from_slice(&words);
+    memory[b] = node.kind;
+    memory[b + 1] = node.payload;
+    memory[b + 2] = node.a0;
+    memory[b + 3] = node.a1;
+    memory[b + 4] = node.a2;
+    memory[b + 5] = node.a3;
 }
 
 // Writes a node at id `count`, in front of the chain of bucket `b`, which began with `start`.
+#[tactic(auto, unfolding(crate::specs::Store::linked_in))]
 fn append(memory: &mut [u32], count: u32, b: usize, start: u32, node: Node)
     requires { (count < 4096) × (b < 4096) × (term_words ≤ length memory.old) }
     ensures { memory.new ≡ linked_in memory.old count b start node }
@@ -125,6 +132,7 @@ fn find(memory: &[u32], start: u32, count: u32, node: Node) -> Option<u32>
 }
 
 // The term of a node, stored where it is not yet.
+#[tactic(auto, unfolding(crate::specs::Store::intern_of))]
 pub fn intern(memory: &mut [u32], count: u32, node: Node) -> Result<Kept, InternError>
     ensures { out (says_of result) memory.new ≡ intern_of memory.old count node }
 {

@@ -1,9 +1,6 @@
-use Rattle.std.proofs.Common.{sym, refl, ◌∙◌, arith, rules}
+use Rattle.std.proofs.Common.{sym, ◌∙◌, arith}
 use Rattle.terms.proofs.Walks.{find_end, find_over, find_hit, find_next}
 use Rattle.terms.proofs.find.Goals as goal
-
-pub loop-at-init : goal.loop-at-init
-loop-at-init c = (search rules, refl)
 
 pub returns-then-alike : goal.returns-then-alike
 returns-then-alike c =
