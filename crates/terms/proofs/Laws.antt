@@ -115,11 +115,7 @@ module _ (swaps : ℕ → Bool) (m : List ℕ) (count : ℕ) (ts : List Tree) (S
   full-only e = go (in_or_not swaps t ts)
     where
       never : (k : Kept) → (intern_of m count n).answer ≡ gives k → ⊥
-      never k p = let z : ◌≡◌ {A = ℕ} 0 1 = ap number (sym p ∙ e) in omega arith
-        where
-          number : Says Kept → ℕ
-          number (gives x) = 0
-          number (refused x) = 1
+      never k p = cc
 
       go : ((i : ℕ) × (i < length ts) × (alike swaps t (tree ts i) ≡ true)) ⊎ (In swaps t ts → ⊥) → (count ≡ 4096) × (In swaps t ts → ⊥)
       go (inl p) = absurd (never (kept count (p.0 + 1)) (ap (λ (o : Out). o.answer) (finds p.0 (omega (arith, p.1, long)) p.2)))
@@ -201,14 +197,7 @@ module _ (m : List ℕ) (r a c : ℕ) (b : Bool) where
   -- memory that holds trees is long enough
   pub starts-short : refused 25 ≡ starts_at m r a c → Starts m r a c b
   unfolding Starts starts_at
-  starts-short q swaps count ts t S R = let z : ◌≡◌ {A = Says Bool} (refused 25) (gives _) = rw (le-leb 32768 (length m) S.held.long) at q in absurd (apart z)
-    where
-      apart : {x : Bool} → refused 25 ≡ gives x → ⊥
-      apart e = let z : ◌≡◌ {A = ℕ} 0 1 = ap number e in omega arith
-        where
-          number : Says Bool → ℕ
-          number (gives x) = 1
-          number (refused x) = 0
+  starts-short q swaps count ts t S R = let z : ◌≡◌ {A = Says Bool} (refused 25) (gives _) = rw (le-leb 32768 (length m) S.held.long) at q in absurd (cc)
 
   pub starts : gives b ≡ starts_at m r a c → Starts m r a c b
   unfolding Starts starts_at Means
@@ -223,15 +212,11 @@ module _ (m : List ℕ) (r a c : ℕ) (b : Bool) where
       long : count ≡ length ts
       long = counted swaps m count ts S
 
-      answered : Says Bool → Bool
-      answered (gives x) = x
-      answered (refused x) = false
-
       there : starts_at m r a c ≡ gives (eq_node (node_at m i) n)
       there = rw (le-leb 32768 (length m) S.held.long, lt-ltb 0 r R.some, le-leb r 4096 (omega (arith, R.within, long, S.held.room)))
 
       value : gives b ≡ starts_at m r a c → b ≡ eq_node (node_at m i) n
-      value e = ap answered (e ∙ there)
+      value e = cc there
 
       is : Means swaps ts (node_at m i) t
       is =

@@ -8,7 +8,11 @@ ghost use Rattle.model.specs.Memory.{term_words};
 
 use model::sizes::{MOST_TERMS, TERM_WORDS};
 
+// The kind of a starting cell.
+const STARTING_CELL: u32 = 16;
+
 // The words of a term: kind, payload and four arguments, each an id plus 1, or 0 where there is none.
+// Four fields, since a definition reads an array as a list of any length.
 #[derive(Clone, Copy, Debug, PartialEq, Eq)]
 pub struct Node {
     pub kind: u32,
@@ -187,7 +191,7 @@ pub fn is_start(memory: &[u32], r: u32, a: u32, c: u32) -> Result<bool, ShortMem
         return Err(ShortMemory);
     }
     let start = Node {
-        kind: 16,
+        kind: STARTING_CELL,
         payload: a,
         a0: c,
         a1: 0,
