@@ -30,9 +30,10 @@ use Rattle.writer.specs.Write.{literals_fit, first_wide, file_fits, Written, fil
 use Rattle.writer.specs.Records.{extents_at, record_bytes, records_bytes, Known, KnownAll, sized, wide, measured}
 use Rattle.writer.specs.Head.{dimensions_at, array_bytes_at, arrays_bytes_at, head_bytes, version_at, HeadKnown, HeadSize}
 use Rattle.writer.specs.Answers.{Ended, Counted, Measures, file_bytes, Writes}
-use Rattle.writer.specs.declared.records.Measured.{Measured}
-use Rattle.writer.specs.declared.records.Measured.TheVariants as measure
-use Rattle.writer.specs.declared.entry.Written.TheVariants as answer
+use Rattle.std.specs.Prelude.{Result, Ok, Err}
+use Rattle.writer.specs.declared.records.Size.{Size}
+use Rattle.writer.specs.declared.records.WideLiteral.{WideLiteral}
+use Rattle.writer.specs.declared.entry.WriteError.TheVariants as error
 use Rattle.writer.proofs.Frames.{front}
 use Rattle.writer.proofs.Writing.{writing_start, writing_put, writing_part}
 use Rattle.writer.proofs.Bridge.{same_words, updates_laid}
@@ -160,15 +161,15 @@ module _ (w : List ℕ) (l : Listed) (f : Facts w l) where
   pub listed : Counted w
   listed = record { count = records l; ended = f.ended; known = f.known }
 
-  pub sized_is : (r : Measured) (n b : ℕ) → Measures w r → r ≡ measure.Sized n b → (n ≡ records l) × (sized b ≡ measured w 98 n 0 0)
+  pub sized_is : (r : Result Size WideLiteral) (e : Size) → Measures w r → r ≡ Ok e → (e.records ≡ records l) × (sized e.bytes ≡ measured w 98 e.records 0 0)
   unfolding Measures
-  sized_is r n b m e =
+  sized_is r size m e =
       let t = subst (Measures w) e m (records l) f.ended in
       (t.0, t.1 ∙ ap (λ (k : ℕ). measured w 98 k 0 0) (sym t.0))
 
-  pub wide_is : (r : Measured) (k : ℕ) → Measures w r → r ≡ measure.Wide k → wide k ≡ measured w 98 (records l) 0 0
+  pub wide_is : (r : Result Size WideLiteral) (e : WideLiteral) → Measures w r → r ≡ Err e → wide e.updates ≡ measured w 98 (records l) 0 0
   unfolding Measures
-  wide_is r k m e = subst (Measures w) e m (records l) f.ended
+  wide_is r literal m e = subst (Measures w) e m (records l) f.ended
 
 -- the replies
 module _ (w : List ℕ) (l : Listed) (f : Facts w l) (n : ℕ) (counted : n ≡ records l) where
@@ -189,7 +190,7 @@ module _ (w : List ℕ) (l : Listed) (f : Facts w l) (n : ℕ) (counted : n ≡ 
   pub wide_some : (k : ℕ) → wide k ≡ measured w 98 n 0 0 → 1 ≤ k
   wide_some k e = let t = (wide-told k e).1 in omega arith
 
-  pub wide-writes : (k place : ℕ) (out : List ℕ) → wide k ≡ measured w 98 n 0 0 → k ≡ place + 1 → Writes w out (answer.Wide place) out
+  pub wide-writes : (k place : ℕ) (out : List ℕ) → wide k ≡ measured w 98 n 0 0 → k ≡ place + 1 → Writes w out (Err (error.Wide place)) out
   wide-writes k place out e p =
       let t = wide-told k e in
       let s : refused left 28 place ≡ written_by l (length out) = refusal (length out) t.0 (let j = t.1 in let i : place ≡ first_wide l.updates = omega arith in i) in
@@ -226,7 +227,7 @@ module _ (w : List ℕ) (l : Listed) (f : Facts w l) (n : ℕ) (counted : n ≡ 
     file-long : length (file_of l) ≡ h + b + 1
     file-long = ap length (sym (file_same (sized-told b e).0)) ∙ sym total_is
 
-    refused-long : (out : List ℕ) → file_fits l (length out) ≡ false → Writes w out answer.Long out
+    refused-long : (out : List ℕ) → file_fits l (length out) ≡ false → Writes w out (Err error.Long) out
     refused-long out q =
         let u : refused left 29 0 ≡ written_by l (length out) = refusal (length out) (sized-told b e).0 q in
         let g : answered_by (decode w) (length out) ≡ refused left 29 0 = ap (λ (o : Option Listed). answered_by o (length out)) f.decoded ∙ sym u in
@@ -236,17 +237,17 @@ module _ (w : List ℕ) (l : Listed) (f : Facts w l) (n : ℕ) (counted : n ≡ 
         refusal m q j = unfold written_by in rw (q, j)
 
     -- a file that is too long for any reader, and one that is too long for the output
-    pub long-writes : (out : List ℕ) (total : ℕ) → total ≡ h + b + 1 → 16384 < total → Writes w out answer.Long out
+    pub long-writes : (out : List ℕ) (total : ℕ) → total ≡ h + b + 1 → 16384 < total → Writes w out (Err error.Long) out
     unfolding file_fits
     long-writes out total t q = let k = file-long in refused-long out (ap (λ (x : Bool). x && leb (length (file_of l)) (length out)) (lt-leb (length (file_of l)) 16384 (omega arith)))
 
-    pub room-writes : (out : List ℕ) (total : ℕ) → total ≡ h + b + 1 → length out < total → Writes w out answer.Long out
+    pub room-writes : (out : List ℕ) (total : ℕ) → total ≡ h + b + 1 → length out < total → Writes w out (Err error.Long) out
     unfolding file_fits
     room-writes out total t q =
         let k = file-long in
         refused-long out (ap (λ (x : Bool). leb (length (file_of l)) 16384 && x) (lt-leb (length (file_of l)) (length out) (omega arith)) ∙ and-false (leb (length (file_of l)) 16384))
 
-    pub file-writes : (out out' : List ℕ) (total : ℕ) → total ≡ h + b + 1 → total ≤ 16384 → total ≤ length out → out' ≡ sets out 0 (file_bytes w n) → Writes w out (answer.File total) out'
+    pub file-writes : (out out' : List ℕ) (total : ℕ) → total ≡ h + b + 1 → total ≤ 16384 → total ≤ length out → out' ≡ sets out 0 (file_bytes w n) → Writes w out (Ok total) out'
     file-writes out out' total t p q r =
         let k = file-long in
         let fits : file_fits l (length out) ≡ true = fit (length out) (omega arith) (omega arith) in

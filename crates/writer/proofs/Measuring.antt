@@ -10,7 +10,7 @@ use lib.Dec.{leb, eqb, ltb}
 use borrow.Author.Tests.{eq-eqb, ne_eqb, le-leb, lt-leb, eqb-true, eqb-false, ltb-true, ltb-false, lt-ltb, le-ltb}
 use Rattle.writer.specs.Records.{record_bytes, Known, KnownAll, sized, wide, wide_at, begins, measured}
 use Rattle.writer.specs.Answers.{Ended, Counted, Measures}
-use Rattle.writer.specs.declared.records.Measured.TheVariants as measure
+use Rattle.std.specs.Prelude.{Ok, Err}
 use Rattle.writer.proofs.Frames.{two_long, constant-long}
 use Rattle.writer.proofs.Subscripts.{subscripts-long}
 use Rattle.writer.proofs.Cellwise.{record-literal, record-constant, record-operator, record-cell, sizes-known, first_known}
@@ -180,11 +180,11 @@ module _ (w : List ℕ) (z : Counted w) (at records updates bytes : ℕ) (c : Co
         goes = subst (λ (m : ℕ). Goes w n (at + 3) m (updates + u) (bytes + b)) k (goes_step w n at (n - records) updates bytes c.goes u b l e p q);
       }
 
-  pub counting_wide : (get_or w at 0 ≡ 0 → ⊥) → wide_at w at ≡ true → Measures w (measure.Wide updates)
+  pub counting_wide : (get_or w at 0 ≡ 0 → ⊥) → wide_at w at ≡ true → Measures w (Err (record { updates = updates }))
   unfolding Measures
   counting_wide h e m y = goes_wide w n at (n - records) updates bytes c.goes (counting_left h) e ∙ ap (λ (k : ℕ). measured w 98 k 0 0) (same_ended w n m z.ended y)
 
-  counting_all : n ≤ records → Measures w (measure.Sized records bytes)
+  counting_all : n ≤ records → Measures w (Ok (record { records = records; bytes = bytes }))
   unfolding Measures
   counting_all h m y =
       let f = c.most in
@@ -192,12 +192,12 @@ module _ (w : List ℕ) (z : Counted w) (at records updates bytes : ℕ) (c : Co
       (omega arith, goes_end w n at (n - records) updates bytes c.goes (omega arith) ∙ ap (λ (k : ℕ). measured w 98 k 0 0) s)
 
   -- a code of 0, and the end of the slice
-  pub counting_stop : get_or w at 0 ≡ 0 → Measures w (measure.Sized records bytes)
+  pub counting_stop : get_or w at 0 ≡ 0 → Measures w (Ok (record { records = records; bytes = bytes }))
   counting_stop e = counting_all (by (ltb records n) refl)
     where
       by : (b : Bool) → ltb records n ≡ b → n ≤ records
       by true q = absurd (z.ended.codes records (ltb-true records n q) (subst (λ (i : ℕ). get_or w i 0 ≡ 0) c.place e))
       by false q = ltb-false records n q
 
-  pub counting_end : length w ≤ at → Measures w (measure.Sized records bytes)
+  pub counting_end : length w ≤ at → Measures w (Ok (record { records = records; bytes = bytes }))
   counting_end h = counting_all (let t = z.ended.there in let p = c.place in omega arith)

@@ -15,7 +15,8 @@ use Rattle.unroller.specs.Decode.{list, list_of, decode, accepted}
 use Rattle.unroller.specs.Unroll.{accepts, refuses, check_reply}
 use Rattle.writer.specs.Write.{refused, answered_by, write_reply, write_leaves}
 use Rattle.writer.specs.Answers.{written_says, Writes}
-use Rattle.writer.specs.declared.entry.Written.{Written as Answer}
+use Rattle.std.specs.Prelude.{Result}
+use Rattle.writer.specs.declared.entry.WriteError.{WriteError}
 use Rattle.writer.proofs.Replies.{untouched}
 
 -- what the check of a list tells
@@ -69,6 +70,6 @@ module _ (w out : List ℕ) where
       by none v = refl
 
   -- an accepted list: what `write_accepted` promises is what is asked
-  pub accepted-writes : leb list_words (length w) ≡ true → (r : Answer) (out' : List ℕ) → Writes w out r out' → (written_says r ≡ write_reply w (length out)) × (out' ≡ write_leaves w out)
+  pub accepted-writes : leb list_words (length w) ≡ true → (r : Result ℕ WriteError) (out' : List ℕ) → Writes w out r out' → (written_says r ≡ write_reply w (length out)) × (out' ≡ write_leaves w out)
   unfolding write_reply write_leaves
   accepted-writes h r out' z = rw h (z.says, z.leaves)

@@ -8,14 +8,13 @@ ghost use Rattle.writer.specs.Head.{HeadKnown};
 ghost use Rattle.writer.specs.Answers.{written_says, file_bytes, Writes};
 
 use crate::head::{head_size, version_of, write_head};
-use crate::records::{Measured, measure, write_statements};
+use crate::records::{measure, write_statements};
 use model::sizes::MOST_BYTES;
 use unroller::{Checked, check_list};
 
-// The file's length. Short: 25. Refused: 26. Wide: 28, with the first update that has such a literal. Long: 29.
-#[derive(Clone, Copy)]
-pub enum Written {
-    File(usize),
+// Why a list is no file. Short: 25. Refused: 26. Wide: 28, with the first update that has such a literal. Long: 29.
+#[derive(Clone, Copy, Debug, PartialEq, Eq)]
+pub enum WriteError {
     Short,
     Refused,
     Wide(usize),
@@ -34,34 +33,34 @@ fn write_all(list: &[u32], n: usize, out: &mut [u8])
 }
 
 // An accepted list. 28 and 29 are asked before anything is written.
-fn write_accepted(list: &[u32], out: &mut [u8]) -> Written
+fn write_accepted(list: &[u32], out: &mut [u8]) -> Result<usize, WriteError>
     requires { accepted list.now ≡ true }
     ensures { Writes list.now out.old result out.new }
 {
     match measure(list) {
-        Measured::Wide(updates) => Written::Wide(updates - 1),
-        Measured::Sized(n, bytes) => {
-            let total = head_size(list) + bytes + 1;
+        Err(wide) => Err(WriteError::Wide(wide.updates - 1)),
+        Ok(size) => {
+            let total = head_size(list) + size.bytes + 1;
             if MOST_BYTES < total {
-                return Written::Long;
+                return Err(WriteError::Long);
             }
             if out.len() < total {
-                return Written::Long;
+                return Err(WriteError::Long);
             }
-            write_all(list, n, out);
-            Written::File(total)
+            write_all(list, size.records, out);
+            Ok(total)
         }
     }
 }
 
 // The list as a program file without loops and guards, at the front of the output. A refusal leaves the output as it was.
-pub fn write_file(list: &[u32], out: &mut [u8]) -> Written
+pub fn write_file(list: &[u32], out: &mut [u8]) -> Result<usize, WriteError>
     ensures reply { written_says result ≡ write_reply list.now (length out.old) }
     ensures leaves { out.new ≡ write_leaves list.now out.old }
 {
     match check_list(list) {
-        Checked::Short => Written::Short,
-        Checked::Refused => Written::Refused,
+        Checked::Short => Err(WriteError::Short),
+        Checked::Refused => Err(WriteError::Refused),
         Checked::Accepted => write_accepted(list, out),
     }
 }

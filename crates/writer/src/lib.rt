@@ -6,4 +6,4 @@ mod head;
 mod layout;
 mod records;
 
-pub use entry::{Written, write_file};
+pub use entry::{WriteError, write_file};

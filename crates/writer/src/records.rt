@@ -120,16 +120,16 @@ fn write_record(list: &[u32], at: usize, out: &mut [u8]) -> usize
     write_cell(list, code, x, cell, out)
 }
 
-// How many records were written, and how many bytes they take.
-#[derive(Clone, Copy)]
-struct Wrote {
-    records: usize,
-    bytes: usize,
+// How many records there are, or were written, and how many bytes they take.
+#[derive(Clone, Copy, Debug, PartialEq, Eq)]
+pub(crate) struct Size {
+    pub records: usize,
+    pub bytes: usize,
 }
 
 // The expression that begins at word `at`: each node into what remains of the output. It ends where the next update begins, or with the
 // n records that are left.
-fn write_expression(list: &[u32], at: usize, n: usize, out: &mut [u8]) -> Wrote
+fn write_expression(list: &[u32], at: usize, n: usize, out: &mut [u8]) -> Size
     requires { KnownAll list.now at n × (length (records_bytes list.now at n) ≤ length out.old) }
     ensures { Puts list.now at n 0 out.old result.records result.bytes out.new }
 {
@@ -138,7 +138,7 @@ fn write_expression(list: &[u32], at: usize, n: usize, out: &mut [u8]) -> Wrote
     while k < n {
         let from = at + RECORD_WORDS * k;
         if list[from] == UPDATE {
-            return Wrote {
+            return Size {
                 records: k,
                 bytes: to,
             };
@@ -146,20 +146,20 @@ fn write_expression(list: &[u32], at: usize, n: usize, out: &mut [u8]) -> Wrote
         to += write_record(list, from, &mut out[to..]);
         k += 1;
     }
-    Wrote {
+    Size {
         records: k,
         bytes: to,
     }
 }
 
 // The statement of the update at word `at`, of n records that are left: its target, and its expression into what remains.
-fn write_statement(list: &[u32], at: usize, n: usize, out: &mut [u8]) -> Wrote
+fn write_statement(list: &[u32], at: usize, n: usize, out: &mut [u8]) -> Size
     requires { (0 < n) × KnownAll list.now at n × (length (records_bytes list.now at n) ≤ length out.old) }
     ensures { Puts list.now at n 1 out.old result.records result.bytes out.new }
 {
     let target = write_record(list, at, out);
     let source = write_expression(list, at + RECORD_WORDS, n - 1, &mut out[target..]);
-    Wrote {
+    Size {
         records: 1 + source.records,
         bytes: target + source.bytes,
     }
@@ -183,12 +183,10 @@ pub(crate) fn write_statements(list: &[u32], n: usize, out: &mut [u8]) -> usize
     to
 }
 
-// What measuring the records gives: how many there are, and how many bytes they take; or how many updates had begun where a literal does
-// not fit in 16 bits.
-#[derive(Clone, Copy)]
-pub(crate) enum Measured {
-    Sized(usize, usize),
-    Wide(usize),
+// How many updates had begun where a literal does not fit in 16 bits.
+#[derive(Clone, Copy, Debug, PartialEq, Eq)]
+pub(crate) struct WideLiteral {
+    pub updates: usize,
 }
 
 // How many bytes a record takes.
@@ -211,32 +209,27 @@ fn size_of(list: &[u32], at: usize) -> usize
 }
 
 // A literal that does not fit in 16 signed bits, by its word of 32: from 2^15 on, and below 2^32 - 2^15.
+#[tactic(auto, unfolding(crate::specs::Records::wide_at))]
 fn is_wide(list: &[u32], at: usize) -> bool
     requires { Known list.now at }
     ensures { result ≡ wide_at list.now at }
 {
     let code = wide(list[at]);
     let x = wide(list[at + 1]);
-    if code == LITERAL {
-        if 32768 <= x {
-            if x < 4294934528 {
-                return true;
-            }
-        }
-    }
-    false
+    code == LITERAL && 32768 <= x && x < 4294934528
 }
 
 // 1 where an update begins.
+#[tactic(auto, unfolding(crate::specs::Records::begins))]
 fn begin(list: &[u32], at: usize) -> usize
     requires { Known list.now at }
     ensures { result ≡ begins list.now at }
 {
-    if list[at] == UPDATE { 1 } else { 0 }
+    usize::from(list[at] == UPDATE)
 }
 
 // Questions 28 and 29 are asked of this, before anything is written. A code of 0 ends the records.
-pub(crate) fn measure(list: &[u32]) -> Measured
+pub(crate) fn measure(list: &[u32]) -> Result<Size, WideLiteral>
     requires { Counted list.now }
     ensures { Measures list.now result }
 {
@@ -244,17 +237,14 @@ pub(crate) fn measure(list: &[u32]) -> Measured
     let mut records: usize = 0;
     let mut updates: usize = 0;
     let mut bytes: usize = 0;
-    while at < list.len() {
-        if list[at] == 0 {
-            return Measured::Sized(records, bytes);
-        }
+    while at < list.len() && list[at] != 0 {
         if is_wide(list, at) {
-            return Measured::Wide(updates);
+            return Err(WideLiteral { updates });
         }
         updates += begin(list, at);
         bytes += size_of(list, at);
         at += RECORD_WORDS;
         records += 1;
     }
-    Measured::Sized(records, bytes)
+    Ok(Size { records, bytes })
 }

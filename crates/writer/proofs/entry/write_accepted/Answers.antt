@@ -14,8 +14,8 @@ pub overflow_sub-result : goal.overflow_sub-result
 overflow_sub-result c =
     let w = c.args.list.now in
     let q = accepts w c.requires in
-    let k = c.in-Wide.updates in
-    let m = wide_is w q.what q.holds c.measure.result k c.measure.ensures c.in-Wide.is in
+    let k = c.in-Err.wide.updates in
+    let m = wide_is w q.what q.holds c.measure.result c.in-Err.wide c.measure.ensures c.in-Err.is in
     let s = wide_some w q.what q.holds (records q.what) refl k m in
     omega arith
 
@@ -29,19 +29,19 @@ pub overflow_add-total : goal.overflow_add-total
 overflow_add-total c =
     let w = c.args.list.now in
     let q = accepts w c.requires in
-    let n = c.in-Sized.n in
-    let b = c.in-Sized.bytes in
-    let m = sized_is w q.what q.holds c.measure.result n b c.measure.ensures c.in-Sized.is in
+    let n = c.in-Ok.size.records in
+    let b = c.in-Ok.size.bytes in
+    let m = sized_is w q.what q.holds c.measure.result c.in-Ok.size c.measure.ensures c.in-Ok.is in
     let x = bytes-few w q.what q.holds n m.0 b m.1 in
     omega arith
 
-pub overflow_add-total-in-Sized : goal.overflow_add-total-in-Sized
-overflow_add-total-in-Sized c =
+pub overflow_add-total-in-Ok : goal.overflow_add-total-in-Ok
+overflow_add-total-in-Ok c =
     let w = c.args.list.now in
     let q = accepts w c.requires in
-    let n = c.in-Sized.n in
-    let b = c.in-Sized.bytes in
-    let m = sized_is w q.what q.holds c.measure.result n b c.measure.ensures c.in-Sized.is in
+    let n = c.in-Ok.size.records in
+    let b = c.in-Ok.size.bytes in
+    let m = sized_is w q.what q.holds c.measure.result c.in-Ok.size c.measure.ensures c.in-Ok.is in
     let x = bytes-few w q.what q.holds n m.0 b m.1 in
     omega arith
 
@@ -49,9 +49,9 @@ pub returns-then-total-gt-MOST_BYTES : goal.returns-then-total-gt-MOST_BYTES
 returns-then-total-gt-MOST_BYTES c =
     let w = c.args.list.now in
     let q = accepts w c.requires in
-    let n = c.in-Sized.n in
-    let b = c.in-Sized.bytes in
-    let m = sized_is w q.what q.holds c.measure.result n b c.measure.ensures c.in-Sized.is in
+    let n = c.in-Ok.size.records in
+    let b = c.in-Ok.size.bytes in
+    let m = sized_is w q.what q.holds c.measure.result c.in-Ok.size c.measure.ensures c.in-Ok.is in
     let h = c.head_size.result in
     let head = c.head_size.ensures in
     long-writes w q.what q.holds n m.0 h b head.says m.1 c.args.out.now (h + b + 1) refl (omega (arith, c.if-total-gt-MOST_BYTES.true))
@@ -60,9 +60,9 @@ pub returns-then-out-total : goal.returns-then-out-total
 returns-then-out-total c =
     let w = c.args.list.now in
     let q = accepts w c.requires in
-    let n = c.in-Sized.n in
-    let b = c.in-Sized.bytes in
-    let m = sized_is w q.what q.holds c.measure.result n b c.measure.ensures c.in-Sized.is in
+    let n = c.in-Ok.size.records in
+    let b = c.in-Ok.size.bytes in
+    let m = sized_is w q.what q.holds c.measure.result c.in-Ok.size c.measure.ensures c.in-Ok.is in
     let h = c.head_size.result in
     let head = c.head_size.ensures in
     room-writes w q.what q.holds n m.0 h b head.says m.1 c.args.out.now (h + b + 1) refl (omega (arith, c.if-out-total.true))
@@ -71,20 +71,20 @@ pub write_all-requires : goal.write_all-requires
 write_all-requires c =
     let w = c.args.list.now in
     let q = accepts w c.requires in
-    let n = c.in-Sized.n in
-    let b = c.in-Sized.bytes in
-    let m = sized_is w q.what q.holds c.measure.result n b c.measure.ensures c.in-Sized.is in
+    let n = c.in-Ok.size.records in
+    let b = c.in-Ok.size.bytes in
+    let m = sized_is w q.what q.holds c.measure.result c.in-Ok.size c.measure.ensures c.in-Ok.is in
     let h = c.head_size.result in
     let head = c.head_size.ensures in
     let t = total_is w q.what q.holds n m.0 h b head.says m.1 in
     (q.holds.head, all_known w q.what q.holds n m.0, omega (arith, c.if-out-total.false))
 
-pub returns-in-Wide : goal.returns-in-Wide
-returns-in-Wide c =
+pub returns-in-Err : goal.returns-in-Err
+returns-in-Err c =
     let w = c.args.list.now in
     let q = accepts w c.requires in
-    let k = c.in-Wide.updates in
-    let m = wide_is w q.what q.holds c.measure.result k c.measure.ensures c.in-Wide.is in
+    let k = c.in-Err.wide.updates in
+    let m = wide_is w q.what q.holds c.measure.result c.in-Err.wide c.measure.ensures c.in-Err.is in
     let s = wide_some w q.what q.holds (records q.what) refl k m in
     wide-writes w q.what q.holds (records q.what) refl k _ c.args.out.now m (omega arith)
 
@@ -92,9 +92,9 @@ pub returns-else-out-total : goal.returns-else-out-total
 returns-else-out-total c =
     let w = c.args.list.now in
     let q = accepts w c.requires in
-    let n = c.in-Sized.n in
-    let b = c.in-Sized.bytes in
-    let m = sized_is w q.what q.holds c.measure.result n b c.measure.ensures c.in-Sized.is in
+    let n = c.in-Ok.size.records in
+    let b = c.in-Ok.size.bytes in
+    let m = sized_is w q.what q.holds c.measure.result c.in-Ok.size c.measure.ensures c.in-Ok.is in
     let h = c.head_size.result in
     let head = c.head_size.ensures in
     file-writes w q.what q.holds n m.0 h b head.says m.1 c.args.out.now c.write_all.new.out (h + b + 1) refl (omega (arith, c.if-total-gt-MOST_BYTES.false)) (omega (arith, c.if-out-total.false)) c.write_all.ensures
