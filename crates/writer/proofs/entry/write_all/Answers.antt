@@ -9,9 +9,6 @@ use Rattle.writer.proofs.Frames.{part_room}
 use Rattle.writer.proofs.Facts.{file-room, file_wrote}
 use Rattle.writer.proofs.entry.write_all.Goals as goal
 
-pub version_of-version-requires : goal.version_of-version-requires
-version_of-version-requires c = c.requires.0
-
 pub write_head-head-requires : goal.write_head-head-requires
 write_head-head-requires c =
     let a = c.args in
@@ -69,15 +66,6 @@ bounds-out-head c =
     let e = c.version_of-version.ensures in
     let v = ap (λ (x : ℕ). length (head_bytes w x)) e in
     omega arith
-
-pub shape_of-out : goal.shape_of-out
-shape_of-out c =
-    let head = c.write_head-head.result in
-    let o1 = c.write_head-head.new.out in
-    let k1 = c.write_head-head.auto.out in
-    let part = c.write_statements-size.new.out in
-    let k2 = same_len_mid head (length o1 - head) o1 part c.write_statements-size.auto.out in
-    length-set (put_mid head (length o1 - head) o1 part) _ _ ∙ k2 ∙ k1
 
 pub returns : goal.returns
 returns c =

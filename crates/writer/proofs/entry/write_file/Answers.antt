@@ -25,9 +25,6 @@ returns-in-Refused c =
     unknown_writes w out (checked_refused w (sym (ap checked_says c.in-Refused.is) ∙ c.check_list.ensures)).0 (checked_refused w (sym (ap checked_says c.in-Refused.is) ∙ c.check_list.ensures)).1 in
     record { reply = all.0; leaves = all.1 }
 
-pub shape_of-out : goal.shape_of-out
-shape_of-out c = c.write_accepted.auto.out
-
 pub returns-in-Accepted : goal.returns-in-Accepted
 returns-in-Accepted c =
     let all = let a = c.args in

@@ -5,12 +5,6 @@ use Rattle.writer.specs.Head.{ArraysKnown}
 use Rattle.writer.proofs.Heading.{head-long}
 use Rattle.writer.proofs.head.head_size.Goals as goal
 
-pub arrays_size-size-requires : goal.arrays_size-size-requires
-arrays_size-size-requires c =
-    let a = c.args in
-    let z = c.requires in
-    subst (λ (m : ℕ). ArraysKnown a.list.now 18 m) (sym c.wide-m.ensures) z.arrays
-
 pub returns : goal.returns
 returns c =
     let a = c.args in

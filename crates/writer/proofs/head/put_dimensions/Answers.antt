@@ -6,26 +6,12 @@ use Rattle.writer.proofs.Frames.{part_room, two_long}
 use Rattle.writer.proofs.Writing.{writing_part, writing_end, dimensions_all, dimensions_next, dimensions_none, dimensions-long}
 use Rattle.writer.proofs.head.put_dimensions.Goals as goal
 
-pub loop-k-init : goal.loop-k-init
-loop-k-init c =
-    let a = c.args in
-    (omega arith, dimensions_all a.list.now a.at a.n a.out.now)
-
-pub put_half-requires : goal.put_half-requires
-put_half-requires c =
-    let l = c.loop-k in
-    let p = c.requires in
-    part_room (2 * l.k) 2 l.out (let j = p.0 in let q = p.1 in let i = l.invariant.1.long in omega arith)
-
 pub loop-k-preserved : goal.loop-k-preserved
 loop-k-preserved c =
     let a = c.args in
     let l = c.loop-k in
     let p = c.requires in
     (omega arith, writing_part (dimensions_at a.list.now a.at a.n) a.out.now (dimensions_at a.list.now (a.at + l.k) (a.n - l.k)) (2 * l.k) l.out l.invariant.1 (little_bytes 2 c.wide.result) (dimensions_at a.list.now (a.at + (l.k + 1)) (a.n - (l.k + 1))) c.put_half.new.out (2 * (l.k + 1)) (dimensions_next a.list.now a.at a.n l.k c.wide.result c.wide.ensures p.0 c.loop-k-test.true) (let g = dimensions-long a.list.now a.at a.n p.0 in let q = p.1 in omega arith) c.put_half.ensures (let t = two_long c.wide.result in omega arith))
-
-pub shape_of-out : goal.shape_of-out
-shape_of-out c = c.loop-k.invariant.1.long
 
 pub returns : goal.returns
 returns c =

@@ -6,12 +6,6 @@ use mathlib.Core.Path.{ap}
 use mathlib.Core.Bool.{not}
 use Rattle.writer.proofs.head.version_of.Goals as goal
 
-pub loop-k-init : goal.loop-k-init
-loop-k-init c =
-    let a = c.args in
-    let z = c.requires in
-    marks_start a.list.now c.wide-n.result c.wide-n.ensures z
-
 pub returns-then-not-is_operator : goal.returns-then-not-is_operator
 returns-then-not-is_operator c =
     let a = c.args in

@@ -31,13 +31,6 @@ put_dimensions-requires c =
     let p = c.requires in
     ((let t = p.0.there in let u = p.0.three in let r = p.1 in let v = array_long a.list.now a.at p.0 in let e = c.wide-n.ensures in omega arith), part_room 2 (2 * c.wide-n.result) c.put_bytes.new.out (let t = p.0.there in let u = p.0.three in let r = p.1 in let v = array_long a.list.now a.at p.0 in let e = c.wide-n.ensures in let k = c.put_bytes.auto.out in omega arith))
 
-pub shape_of-out : goal.shape_of-out
-shape_of-out c =
-    let a = c.args in
-    let p = c.requires in
-    let w = array_wrote a.list.now a.at c.wide-n.result a.out.now c.put_bytes.new.out c.put_dimensions.new.out p.0 c.wide-n.ensures p.1 c.put_bytes.ensures c.put_dimensions.ensures in
-    sets_same a.out.now _ (array_bytes_at a.list.now a.at) 0 w.1
-
 pub returns : goal.returns
 returns c =
     let all = let a = c.args in

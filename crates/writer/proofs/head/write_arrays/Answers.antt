@@ -7,11 +7,6 @@ use Rattle.writer.proofs.Frames.{part_room}
 use Rattle.writer.proofs.Writing.{writing_start, writing_room, writing_part, writing_end, first_array, arrays-behind, arrays_next, arrays_none}
 use Rattle.writer.proofs.head.write_arrays.Goals as goal
 
-pub loop-left-init : goal.loop-left-init
-loop-left-init c =
-    let a = c.args in
-    (c.requires.0, writing_start (arrays_bytes_at a.list.now a.at a.n) a.out.now)
-
 pub write_array-to-requires : goal.write_array-to-requires
 write_array-to-requires c =
     let a = c.args in
@@ -29,22 +24,12 @@ overflow_add-to c =
     let m = writing_room (arrays_bytes_at a.list.now a.at a.n) a.out.now (arrays_bytes_at a.list.now l.from l.left) l.to l.out l.invariant.1 (array_bytes_at a.list.now l.from) (arrays_bytes_at a.list.now (l.from + 5) (l.left - 1)) (arrays_next a.list.now l.from l.left c.loop-left-test.true) p.1 in
     omega arith
 
-pub overflow_add-from : goal.overflow_add-from
-overflow_add-from c =
-    let a = c.args in
-    let l = c.loop-left in
-    let k = first_array a.list.now l.from l.left l.invariant.0 c.loop-left-test.true in
-    omega arith
-
 pub loop-left-preserved : goal.loop-left-preserved
 loop-left-preserved c =
     let a = c.args in
     let l = c.loop-left in
     let p = c.requires in
     (arrays-behind a.list.now l.from l.left l.invariant.0 c.loop-left-test.true, writing_part (arrays_bytes_at a.list.now a.at a.n) a.out.now (arrays_bytes_at a.list.now l.from l.left) l.to l.out l.invariant.1 (array_bytes_at a.list.now l.from) (arrays_bytes_at a.list.now (l.from + 5) (l.left - 1)) c.write_array-to.new.out (l.to + c.write_array-to.result) (arrays_next a.list.now l.from l.left c.loop-left-test.true) p.1 c.write_array-to.ensures.frame (ap (λ (x : ℕ). l.to + x) c.write_array-to.ensures.long))
-
-pub shape_of-out : goal.shape_of-out
-shape_of-out c = c.loop-left.invariant.1.long
 
 pub returns : goal.returns
 returns c =

@@ -149,20 +149,6 @@ overflow_add-result-2 c =
     let long = head-long w a.version z n m e f in
     omega arith
 
-pub shape_of-out : goal.shape_of-out
-shape_of-out c =
-    let n = c.wide-n.result in
-    let o1 = c.write_mark.new.out in
-    let k1 = c.write_mark.auto.out in
-    let p2 = c.put_bytes.new.out in
-    let o2 = put_mid 5 (length o1 - 5) o1 p2 in
-    let k2 = same_len_mid 5 (length o1 - 5) o1 p2 c.put_bytes.auto.out in
-    let p3 = c.put_bytes-2.new.out in
-    let o3 = put_mid (6 + n) (length o2 - (6 + n)) o2 p3 in
-    let k3 = same_len_mid (6 + n) (length o2 - (6 + n)) o2 p3 c.put_bytes-2.auto.out in
-    let p4 = c.write_arrays-size.new.out in
-    same_len_mid (7 + n) (length o3 - (7 + n)) o3 p4 c.write_arrays-size.auto.out ∙ k3 ∙ k2 ∙ k1
-
 pub returns : goal.returns
 returns c =
     let all = let a = c.args in

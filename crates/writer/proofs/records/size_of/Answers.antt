@@ -18,48 +18,6 @@ returns-then-code-eq-OPERATOR c =
     let a = c.args in
     operator-size a.list.now a.at c.wide-code.result c.wide-code.ensures c.if-code-eq-LITERAL.false c.if-code-eq-CONSTANT.false c.if-code-eq-OPERATOR.true
 
-pub overflow_mul-x : goal.overflow_mul-x
-overflow_mul-x c =
-    let a = c.args in
-    let z = c.requires in
-    let s = sizes-known a.list.now a.at c.wide-code.result c.wide-x.result c.wide-code.ensures c.wide-x.ensures z c.if-code-eq-LITERAL.false c.if-code-eq-CONSTANT.false c.if-code-eq-OPERATOR.false in
-    omega arith
-
-pub overflow_add-x : goal.overflow_add-x
-overflow_add-x c =
-    let a = c.args in
-    let z = c.requires in
-    let s = sizes-known a.list.now a.at c.wide-code.result c.wide-x.result c.wide-code.ensures c.wide-x.ensures z c.if-code-eq-LITERAL.false c.if-code-eq-CONSTANT.false c.if-code-eq-OPERATOR.false in
-    omega arith
-
-pub offset_bounds-list-x : goal.offset_bounds-list-x
-offset_bounds-list-x c =
-    let a = c.args in
-    let z = c.requires in
-    let s = sizes-known a.list.now a.at c.wide-code.result c.wide-x.result c.wide-code.ensures c.wide-x.ensures z c.if-code-eq-LITERAL.false c.if-code-eq-CONSTANT.false c.if-code-eq-OPERATOR.false in
-    omega arith
-
-pub bounds-list-x : goal.bounds-list-x
-bounds-list-x c =
-    let a = c.args in
-    let z = c.requires in
-    let s = sizes-known a.list.now a.at c.wide-code.result c.wide-x.result c.wide-code.ensures c.wide-x.ensures z c.if-code-eq-LITERAL.false c.if-code-eq-CONSTANT.false c.if-code-eq-OPERATOR.false in
-    omega arith
-
-pub overflow_mul-result : goal.overflow_mul-result
-overflow_mul-result c =
-    let a = c.args in
-    let z = c.requires in
-    let s = sizes-known a.list.now a.at c.wide-code.result c.wide-x.result c.wide-code.ensures c.wide-x.ensures z c.if-code-eq-LITERAL.false c.if-code-eq-CONSTANT.false c.if-code-eq-OPERATOR.false in
-    omega arith
-
-pub overflow_add-result : goal.overflow_add-result
-overflow_add-result c =
-    let a = c.args in
-    let z = c.requires in
-    let s = sizes-known a.list.now a.at c.wide-code.result c.wide-x.result c.wide-code.ensures c.wide-x.ensures z c.if-code-eq-LITERAL.false c.if-code-eq-CONSTANT.false c.if-code-eq-OPERATOR.false in
-    omega arith
-
 pub returns : goal.returns
 returns c =
     let a = c.args in

@@ -12,54 +12,6 @@ loop-k-init c =
     let a = c.args in
     putting_start a.list.now a.at a.n a.out.now
 
-pub overflow_mul-from : goal.overflow_mul-from
-overflow_mul-from c =
-    let a = c.args in
-    let p = c.requires in
-    let l = c.loop-k in
-    let t = c.loop-k-test.true in
-    let there = known-there a.list.now a.at a.n p.0 (omega arith) in
-    omega arith
-
-pub overflow_add-from : goal.overflow_add-from
-overflow_add-from c =
-    let a = c.args in
-    let p = c.requires in
-    let l = c.loop-k in
-    let t = c.loop-k-test.true in
-    let there = known-there a.list.now a.at a.n p.0 (omega arith) in
-    omega arith
-
-pub offset_bounds-list-from : goal.offset_bounds-list-from
-offset_bounds-list-from c =
-    let a = c.args in
-    let p = c.requires in
-    let l = c.loop-k in
-    let t = c.loop-k-test.true in
-    let there = known-there a.list.now a.at a.n p.0 (omega arith) in
-    omega arith
-
-pub bounds-list-from : goal.bounds-list-from
-bounds-list-from c =
-    let a = c.args in
-    let p = c.requires in
-    let l = c.loop-k in
-    let t = c.loop-k-test.true in
-    let there = known-there a.list.now a.at a.n p.0 (omega arith) in
-    omega arith
-
-pub shape_of-out-then-list-from-eq-UPDATE : goal.shape_of-out-then-list-from-eq-UPDATE
-shape_of-out-then-list-from-eq-UPDATE c =
-    let a = c.args in
-    let l = c.loop-k in
-    putting_same a.list.now a.at a.n a.out.now l.k l.to l.out l.invariant
-
-pub returns-then-list-from-eq-UPDATE : goal.returns-then-list-from-eq-UPDATE
-returns-then-list-from-eq-UPDATE c =
-    let a = c.args in
-    let l = c.loop-k in
-    putting_stop a.list.now a.at a.n a.out.now l.k l.to l.out l.invariant _ refl (omega (arith, c.if-list-from-eq-UPDATE.true))
-
 pub slice_bounds-write_record-count : goal.slice_bounds-write_record-count
 slice_bounds-write_record-count c =
     let a = c.args in
@@ -105,15 +57,3 @@ loop-k-preserved c =
     let l = c.loop-k in
     let t = c.loop-k-test.true in
     putting_next a.list.now a.at a.n a.out.now l.k l.to l.out l.invariant p.1 t _ _ _ refl (λ e. let h = c.if-list-from-eq-UPDATE.false in omega arith) c.write_record-to.ensures.long c.write_record-to.ensures.frame
-
-pub shape_of-out : goal.shape_of-out
-shape_of-out c =
-    let a = c.args in
-    let l = c.loop-k in
-    putting_same a.list.now a.at a.n a.out.now l.k l.to l.out l.invariant
-
-pub returns : goal.returns
-returns c =
-    let a = c.args in
-    let l = c.loop-k in
-    putting_end a.list.now a.at a.n a.out.now l.k l.to l.out l.invariant (omega arith)

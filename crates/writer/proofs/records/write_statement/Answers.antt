@@ -13,13 +13,6 @@ write_record-target-requires c =
     let room = statement-room a.list.now a.at a.n p.0 in
     (first_known a.list.now a.at a.n p.1 p.0, omega arith)
 
-pub overflow_add-at : goal.overflow_add-at
-overflow_add-at c =
-    let a = c.args in
-    let p = c.requires in
-    let there = known-there a.list.now a.at a.n p.1 p.0 in
-    omega arith
-
 pub slice_bounds-write_expression-count : goal.slice_bounds-write_expression-count
 slice_bounds-write_expression-count c =
     let a = c.args in
