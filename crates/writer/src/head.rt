@@ -16,10 +16,8 @@ fn put_bytes(list: &[u32], at: usize, n: usize, out: &mut [u8])
     requires { (at + n ≤ length list.now) × (n ≤ length out.old) × ((k : ℕ) → k < n → get_or list.now (at + k) 0 < 256) }
     ensures { out.new ≡ sets out.old 0 (extents_at list.now at n) }
 {
-    let mut k: usize = 0;
-    while k < n {
+    for k in 0..n {
         out[k] = low(wide(list[at + k]));
-        k += 1;
     }
 }
 
@@ -28,10 +26,8 @@ fn put_dimensions(list: &[u32], at: usize, n: usize, out: &mut [u8])
     requires { (at + n ≤ length list.now) × (2 * n ≤ length out.old) }
     ensures { out.new ≡ sets out.old 0 (dimensions_at list.now at n) }
 {
-    let mut k: usize = 0;
-    while k < n {
+    for k in 0..n {
         put_half(&mut out[2 * k..], wide(list[at + k]));
-        k += 1;
     }
 }
 
@@ -53,13 +49,9 @@ fn write_arrays(list: &[u32], at: usize, n: usize, out: &mut [u8]) -> usize
     ensures long { result ≡ length (arrays_bytes_at list.now at n) }
     ensures frame { out.new ≡ sets out.old 0 (arrays_bytes_at list.now at n) }
 {
-    let mut from = at;
-    let mut left = n;
     let mut to: usize = 0;
-    while 0 < left {
-        to += write_array(list, from, &mut out[to..]);
-        from += ARRAY_WORDS;
-        left -= 1;
+    for k in 0..n {
+        to += write_array(list, at + ARRAY_WORDS * k, &mut out[to..]);
     }
     to
 }
@@ -70,12 +62,10 @@ pub(crate) fn version_of(list: &[u32]) -> usize
     ensures { result ≡ version_at list.now }
 {
     let n = wide(list[0]);
-    let mut k: usize = 0;
-    while k < n {
+    for k in 0..n {
         if !is_operator(1, wide(list[OPERATORS + k])) {
             return 2;
         }
-        k += 1;
     }
     1
 }
@@ -86,13 +76,9 @@ fn arrays_size(list: &[u32], at: usize, n: usize) -> usize
     ensures says { result ≡ length (arrays_bytes_at list.now at n) }
     ensures few { result ≤ 8 * n }
 {
-    let mut from = at;
-    let mut left = n;
     let mut size: usize = 0;
-    while 0 < left {
-        size += 2 + 2 * wide(list[from + 1]);
-        from += ARRAY_WORDS;
-        left -= 1;
+    for k in 0..n {
+        size += 2 + 2 * wide(list[at + ARRAY_WORDS * k + 1]);
     }
     size
 }

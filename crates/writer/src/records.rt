@@ -133,9 +133,8 @@ fn write_expression(list: &[u32], at: usize, n: usize, out: &mut [u8]) -> Size
     requires { KnownAll list.now at n × (length (records_bytes list.now at n) ≤ length out.old) }
     ensures { Puts list.now at n 0 out.old result.records result.bytes out.new }
 {
-    let mut k: usize = 0;
     let mut to: usize = 0;
-    while k < n {
+    for k in 0..n {
         let from = at + RECORD_WORDS * k;
         if list[from] == UPDATE {
             return Size {
@@ -144,10 +143,9 @@ fn write_expression(list: &[u32], at: usize, n: usize, out: &mut [u8]) -> Size
             };
         }
         to += write_record(list, from, &mut out[to..]);
-        k += 1;
     }
     Size {
-        records: k,
+        records: n,
         bytes: to,
     }
 }

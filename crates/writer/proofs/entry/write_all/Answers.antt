@@ -1,8 +1,7 @@
 use native.Mathlib.Omega.{arith}
-use mathlib.Core.Path.{ap, ◌∙◌}
-use Prim.Native.Nat.{ℕ, ◌-◌}
-use lib.ListN.{length, length-set}
-use borrow.Rule.Slice.PartMut.{put_mid, same_len_mid}
+use mathlib.Core.Path.{ap}
+use Prim.Native.Nat.{ℕ}
+use lib.ListN.{length}
 use Rattle.writer.specs.Records.{records_bytes}
 use Rattle.writer.specs.Head.{head_bytes}
 use Rattle.writer.proofs.Frames.{part_room}

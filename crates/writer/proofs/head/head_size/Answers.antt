@@ -1,7 +1,4 @@
 use native.Mathlib.Omega.{arith}
-use mathlib.Core.Path.{sym, subst}
-use Prim.Native.Nat.{ℕ}
-use Rattle.writer.specs.Head.{ArraysKnown}
 use Rattle.writer.proofs.Heading.{head-long}
 use Rattle.writer.proofs.head.head_size.Goals as goal
 

@@ -1,10 +1,7 @@
-use Prim.Native.Nat.{◌≤◌, ◌+◌, ◌-◌}
+use Prim.Native.Nat.{◌+◌, ◌-◌}
 use Rattle.writer.specs.Records.{extents_at}
 use Rattle.writer.proofs.Writing.{Writing}
 use Rattle.writer.proofs.head.put_bytes.Given as goal
 
 abbrev pub invariant-loop-k : goal.invariant-loop-k
-invariant-loop-k l = (l.k ≤ l.n) × Writing (extents_at l.list l.at l.n) l.initial.out (extents_at l.list (l.at + l.k) (l.n - l.k)) l.k l.out
-
-abbrev pub decreases-loop-k : goal.decreases-loop-k
-decreases-loop-k l = l.n - l.k
+invariant-loop-k l = Writing (extents_at l.list l.at l.n) l.initial.out (extents_at l.list (l.at + l.k) (l.n - l.k)) l.k l.out

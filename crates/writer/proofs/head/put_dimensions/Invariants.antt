@@ -1,10 +1,7 @@
-use Prim.Native.Nat.{◌≤◌, ◌+◌, ◌-◌, ◌*◌}
+use Prim.Native.Nat.{◌+◌, ◌-◌, ◌*◌}
 use Rattle.writer.specs.Head.{dimensions_at}
 use Rattle.writer.proofs.Writing.{Writing}
 use Rattle.writer.proofs.head.put_dimensions.Given as goal
 
 abbrev pub invariant-loop-k : goal.invariant-loop-k
-invariant-loop-k l = (l.k ≤ l.n) × Writing (dimensions_at l.list l.at l.n) l.initial.out (dimensions_at l.list (l.at + l.k) (l.n - l.k)) (2 * l.k) l.out
-
-abbrev pub decreases-loop-k : goal.decreases-loop-k
-decreases-loop-k l = l.n - l.k
+invariant-loop-k l = Writing (dimensions_at l.list l.at l.n) l.initial.out (dimensions_at l.list (l.at + l.k) (l.n - l.k)) (2 * l.k) l.out

@@ -1,7 +1,7 @@
 use native.Mathlib.Omega.{arith}
 use mathlib.Core.Path.{sym, ◌∙◌}
 use borrow.Author.Tests.{not-true, not-false}
-use Rattle.writer.proofs.Heading.{marks_start, marks_stop, marks_step, marks_end}
+use Rattle.writer.proofs.Heading.{marks_stop, marks_step, marks_end}
 use mathlib.Core.Path.{ap}
 use mathlib.Core.Bool.{not}
 use Rattle.writer.proofs.head.version_of.Goals as goal

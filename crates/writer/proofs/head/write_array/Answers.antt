@@ -1,7 +1,6 @@
 use native.Mathlib.Omega.{arith}
 use Prim.Native.Nat.{◌*◌}
-use Rattle.writer.specs.Head.{array_bytes_at}
-use Rattle.writer.proofs.Frames.{part_room, sets_same}
+use Rattle.writer.proofs.Frames.{part_room}
 use Rattle.writer.proofs.Writing.{array_long, array_bytes_lem, array_wrote}
 use Rattle.writer.proofs.head.write_array.Goals as goal
 

@@ -1,8 +1,8 @@
 use native.Mathlib.Omega.{arith}
-use mathlib.Core.Path.{sym, subst, ◌∙◌}
+use mathlib.Core.Path.{sym, subst}
 use Prim.Native.Nat.{ℕ, ◌+◌, ◌-◌}
 use lib.ListN.{length}
-use borrow.Rule.Slice.PartMut.{put_mid, same_len_mid}
+use borrow.Rule.Slice.PartMut.{put_mid}
 use Rattle.writer.specs.Head.{arrays_bytes_at, ArraysKnown}
 use Rattle.writer.proofs.Frames.{part_room}
 use Rattle.writer.proofs.Heading.{head-long, head_words_lem, count_word, head_wrote}

@@ -1,10 +1,4 @@
 use borrow.Author.Rules.{rules}
-use native.Mathlib.Omega.{arith}
-use mathlib.Core.List.{◌++◌}
-use lib.ListN.{length-set, set}
-use Rattle.reader.specs.Grammar.{mark}
-use Rattle.writer.specs.File.{little_bytes}
-use Rattle.writer.proofs.Frames.{part_room, sets_same}
 use Rattle.writer.proofs.Heading.{mark_is}
 use Rattle.writer.proofs.head.write_mark.Goals as goal
 

@@ -1,8 +1,4 @@
-use native.Mathlib.Omega.{arith}
-use mathlib.Core.Path.{◌∙◌}
-use Prim.Native.Nat.{◌-◌, ◌*◌}
-use Rattle.writer.proofs.Frames.{part_room}
-use Rattle.writer.proofs.Subscripts.{dividing_start, dividing_some, dividing_step, dividing_end}
+use Rattle.writer.proofs.Subscripts.{dividing_step, dividing_end}
 use Rattle.writer.proofs.records.put_subscripts.Goals as goal
 
 pub loop-k-preserved : goal.loop-k-preserved

@@ -1,6 +1,4 @@
-use native.Mathlib.Omega.{arith}
 use Rattle.writer.proofs.Measuring.{literal-size, constant-size, operator-size, cell-size}
-use Rattle.writer.proofs.Cellwise.{sizes-known}
 use Rattle.writer.proofs.records.size_of.Goals as goal
 
 pub returns-then-code-eq-LITERAL : goal.returns-then-code-eq-LITERAL

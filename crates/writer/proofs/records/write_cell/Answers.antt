@@ -1,11 +1,6 @@
-use native.Mathlib.Omega.{arith}
-use mathlib.Core.Path.{sym, ap, subst}
-use mathlib.Core.List.{◌∷◌}
+use mathlib.Core.Path.{ap}
 use Prim.Native.Nat.{ℕ, ◌+◌, ◌*◌}
-use lib.ListN.{length-set, set, get_or}
-use Rattle.writer.proofs.Frames.{part_room, sets_same}
 use Rattle.writer.proofs.Cellwise.{cell_is}
-use Rattle.writer.specs.Records.{Sizes, subscript_bytes}
 use Rattle.writer.proofs.records.write_cell.Goals as goal
 
 pub returns : goal.returns

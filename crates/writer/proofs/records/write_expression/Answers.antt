@@ -4,7 +4,7 @@ use Prim.Native.Nat.{◌+◌, ◌*◌}
 use lib.ListN.{length}
 use Rattle.writer.specs.Records.{record_bytes}
 use Rattle.writer.proofs.Frames.{part_room}
-use Rattle.writer.proofs.Cellwise.{known-there, putting_start, putting_same, putting_room, putting_next, putting_stop, putting_end}
+use Rattle.writer.proofs.Cellwise.{putting_start, putting_same, putting_room, putting_next}
 use Rattle.writer.proofs.records.write_expression.Goals as goal
 
 pub loop-k-init : goal.loop-k-init

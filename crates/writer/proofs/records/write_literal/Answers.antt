@@ -1,9 +1,7 @@
 use native.Mathlib.Omega.{arith}
 use mathlib.Core.Path.{refl}
-use lib.ListN.{length-set, set}
-use Rattle.writer.proofs.Frames.{one_then, two_long, part_room, sets_same}
+use Rattle.writer.proofs.Frames.{one_then, two_long}
 use Rattle.writer.specs.File.{little_bytes}
-use mathlib.Core.List.{◌∷◌}
 use Rattle.writer.proofs.records.write_literal.Goals as goal
 
 pub returns : goal.returns

@@ -3,7 +3,7 @@ use Prim.Native.Nat.{◌+◌, ◌-◌}
 use lib.ListN.{length}
 use Rattle.writer.specs.Records.{records_bytes}
 use Rattle.writer.proofs.Frames.{part_room}
-use Rattle.writer.proofs.Cellwise.{first_known, known_behind, known-there, records-room, statement-room, statement-puts}
+use Rattle.writer.proofs.Cellwise.{first_known, known_behind, records-room, statement-room, statement-puts}
 use Rattle.writer.proofs.records.write_statement.Goals as goal
 
 pub write_record-target-requires : goal.write_record-target-requires

@@ -1,12 +1,9 @@
 use native.Mathlib.Omega.{arith}
-use mathlib.Core.Path.{sym, ap}
+use mathlib.Core.Path.{ap}
 use Prim.Native.Nat.{ℕ, ◌+◌, ◌-◌, ◌*◌}
-use mathlib.Core.List.{[], append-nil}
-use lib.ListN.{length}
 use Rattle.writer.specs.Records.{records_bytes}
-use Rattle.writer.proofs.Frames.{part_room}
-use Rattle.writer.proofs.Writing.{writing_start, writing_room, writing_part, writing_end}
-use Rattle.writer.proofs.Cellwise.{known_behind, known-there, records-split, records_none, records-room}
+use Rattle.writer.proofs.Writing.{writing_part, writing_end}
+use Rattle.writer.proofs.Cellwise.{known_behind, records-split, records_none, records-room}
 use Rattle.writer.proofs.records.write_statements.Goals as goal
 
 pub overflow_add-to : goal.overflow_add-to
