@@ -8,7 +8,6 @@ ghost use Rattle.writer.specs.Head.{dimensions_at, array_bytes_at, arrays_bytes_
 
 use crate::layout::{ARRAY_COUNT, ARRAY_WORDS, ARRAYS, OPERATORS};
 use crate::records::{low, put_half};
-use model::numbers::wide;
 use model::operator::is_operator;
 
 // n words, each below 256, as bytes.
@@ -17,7 +16,7 @@ fn put_bytes(list: &[u32], at: usize, n: usize, out: &mut [u8])
     ensures { out.new ≡ sets out.old 0 (extents_at list.now at n) }
 {
     for k in 0..n {
-        out[k] = low(wide(list[at + k]));
+        out[k] = low(list[at + k] as usize);
     }
 }
 
@@ -27,7 +26,7 @@ fn put_dimensions(list: &[u32], at: usize, n: usize, out: &mut [u8])
     ensures { out.new ≡ sets out.old 0 (dimensions_at list.now at n) }
 {
     for k in 0..n {
-        put_half(&mut out[2 * k..], wide(list[at + k]));
+        put_half(&mut out[2 * k..], list[at + k] as usize);
     }
 }
 
@@ -37,7 +36,7 @@ fn write_array(list: &[u32], at: usize, out: &mut [u8]) -> usize
     ensures long { result ≡ length (array_bytes_at list.now at) }
     ensures frame { out.new ≡ sets out.old 0 (array_bytes_at list.now at) }
 {
-    let n = wide(list[at + 1]);
+    let n = list[at + 1] as usize;
     put_bytes(list, at, 2, out);
     put_dimensions(list, at + 2, n, &mut out[2..]);
     2 + 2 * n
@@ -61,9 +60,9 @@ pub(crate) fn version_of(list: &[u32]) -> usize
     requires { HeadKnown list.now }
     ensures { result ≡ version_at list.now }
 {
-    let n = wide(list[0]);
+    let n = list[0] as usize;
     for k in 0..n {
-        if !is_operator(1, wide(list[OPERATORS + k])) {
+        if !is_operator(1, list[OPERATORS + k] as usize) {
             return 2;
         }
     }
@@ -78,7 +77,7 @@ fn arrays_size(list: &[u32], at: usize, n: usize) -> usize
 {
     let mut size: usize = 0;
     for k in 0..n {
-        size += 2 + 2 * wide(list[at + ARRAY_WORDS * k + 1]);
+        size += 2 + 2 * list[at + ARRAY_WORDS * k + 1] as usize;
     }
     size
 }
@@ -89,8 +88,8 @@ pub(crate) fn head_size(list: &[u32]) -> usize
     ensures says { HeadSize list.now result }
     ensures few { result ≤ 151 }
 {
-    let n = wide(list[0]);
-    let m = wide(list[ARRAY_COUNT]);
+    let n = list[0] as usize;
+    let m = list[ARRAY_COUNT] as usize;
     let size = arrays_size(list, ARRAYS, m);
     7 + n + size
 }
@@ -112,8 +111,8 @@ pub(crate) fn write_head(list: &[u32], version: usize, out: &mut [u8]) -> usize
     ensures long { result ≡ length (head_bytes list.now version) }
     ensures frame { out.new ≡ sets out.old 0 (head_bytes list.now version) }
 {
-    let n = wide(list[0]);
-    let m = wide(list[ARRAY_COUNT]);
+    let n = list[0] as usize;
+    let m = list[ARRAY_COUNT] as usize;
     write_mark(version, out);
     put_bytes(list, 0, n + 1, &mut out[5..]);
     put_bytes(list, ARRAY_COUNT, 1, &mut out[6 + n..]);

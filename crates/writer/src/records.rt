@@ -8,7 +8,6 @@ ghost use Rattle.writer.specs.Answers.{Counted, Measures, Puts};
 use crate::layout::{
     ARRAY_WORDS, CONSTANT, DIMENSION_COUNT, EXTENTS, LITERAL, OPERATOR, RECORD_WORDS, UPDATE,
 };
-use model::numbers::wide;
 use model::sizes::HEADER_WORDS;
 
 // The lowest byte.
@@ -46,7 +45,7 @@ fn put_subscripts(list: &[u32], at: usize, n: usize, cell: usize, out: &mut [u8]
     let mut k = n;
     while 1 < k {
         k -= 1;
-        let extent = wide(list[at + k]);
+        let extent = list[at + k] as usize;
         put_half(&mut out[2 * k..], rest % extent);
         rest /= extent;
     }
@@ -92,7 +91,7 @@ fn write_cell(list: &[u32], code: usize, x: usize, cell: usize, out: &mut [u8]) 
     ensures long { result ≡ 2 + 2 * get_or list.now (19 + 5 * x) 0 }
     ensures frame { out.new ≡ sets out.old 0 (code ∷ x ∷ subscript_bytes list.now (20 + 5 * x) (get_or list.now (19 + 5 * x) 0) cell) }
 {
-    let n = wide(list[DIMENSION_COUNT + ARRAY_WORDS * x]);
+    let n = list[DIMENSION_COUNT + ARRAY_WORDS * x] as usize;
     out[0] = low(code);
     out[1] = low(x);
     put_subscripts(list, EXTENTS + ARRAY_WORDS * x, n, cell, &mut out[2..]);
@@ -105,8 +104,8 @@ fn write_record(list: &[u32], at: usize, out: &mut [u8]) -> usize
     ensures long { result ≡ length (record_bytes list.now at) }
     ensures frame { out.new ≡ sets out.old 0 (record_bytes list.now at) }
 {
-    let code = wide(list[at]);
-    let x = wide(list[at + 1]);
+    let code = list[at] as usize;
+    let x = list[at + 1] as usize;
     if code == LITERAL {
         return write_literal(x, out);
     }
@@ -116,7 +115,7 @@ fn write_record(list: &[u32], at: usize, out: &mut [u8]) -> usize
     if code == OPERATOR {
         return write_operator(x, out);
     }
-    let cell = wide(list[at + 2]);
+    let cell = list[at + 2] as usize;
     write_cell(list, code, x, cell, out)
 }
 
@@ -192,7 +191,7 @@ fn size_of(list: &[u32], at: usize) -> usize
     requires { Known list.now at }
     ensures { result ≡ length (record_bytes list.now at) }
 {
-    let code = wide(list[at]);
+    let code = list[at] as usize;
     if code == LITERAL {
         return 3;
     }
@@ -202,8 +201,8 @@ fn size_of(list: &[u32], at: usize) -> usize
     if code == OPERATOR {
         return 2;
     }
-    let x = wide(list[at + 1]);
-    2 + 2 * wide(list[DIMENSION_COUNT + ARRAY_WORDS * x])
+    let x = list[at + 1] as usize;
+    2 + 2 * list[DIMENSION_COUNT + ARRAY_WORDS * x] as usize
 }
 
 // A literal that does not fit in 16 signed bits, by its word of 32: from 2^15 on, and below 2^32 - 2^15.
@@ -212,8 +211,8 @@ fn is_wide(list: &[u32], at: usize) -> bool
     requires { Known list.now at }
     ensures { result ≡ wide_at list.now at }
 {
-    let code = wide(list[at]);
-    let x = wide(list[at + 1]);
+    let code = list[at] as usize;
+    let x = list[at + 1] as usize;
     code == LITERAL && 32768 <= x && x < 4294934528
 }
 

@@ -1,4 +1,4 @@
-use mathlib.Core.Path.{◌≡◌, sym}
+use mathlib.Core.Path.{refl, ◌≡◌, sym}
 use Prim.Native.Nat.{◌+◌, ◌*◌, ◌-◌}
 use native.Mathlib.Omega.{arith}
 use Rattle.writer.proofs.Heading.{adds_step, adds_end}
@@ -10,7 +10,7 @@ loop-k-preserved c =
     let l = c.loop-k in
     let e : a.at + 5 * l.k + 5 ≡ a.at + 5 * (l.k + 1) = omega arith in
     let f : a.n - l.k - 1 ≡ a.n - (l.k + 1) = omega arith in
-    rw (sym e, sym f) (adds_step a.list.now a.at a.n (a.at + 5 * l.k) (a.n - l.k) l.size l.invariant c.wide.result c.wide.ensures (omega arith))
+    rw (sym e, sym f) (adds_step a.list.now a.at a.n (a.at + 5 * l.k) (a.n - l.k) l.size l.invariant _ refl (omega arith))
 
 pub returns : goal.returns
 returns c =

@@ -1,9 +1,10 @@
+use lib.ListN.{get_or}
 use native.Mathlib.Omega.{arith}
-use mathlib.Core.Path.{sym, subst}
-use Prim.Native.Nat.{ℕ, ◌+◌, ◌-◌}
+use mathlib.Core.Path.{refl}
+use Prim.Native.Nat.{◌+◌, ◌-◌}
 use lib.ListN.{length}
 use borrow.Rule.Slice.PartMut.{put_mid}
-use Rattle.writer.specs.Head.{arrays_bytes_at, ArraysKnown}
+use Rattle.writer.specs.Head.{arrays_bytes_at}
 use Rattle.writer.proofs.Frames.{part_room}
 use Rattle.writer.proofs.Heading.{head-long, head_words_lem, count_word, head_wrote}
 use Rattle.writer.proofs.head.write_head.Goals as goal
@@ -13,11 +14,9 @@ write_mark-requires c =
     let a = c.args in
     let w = a.list.now in
     let z = c.requires.0 in
-    let n = c.wide-n.result in
-    let e = c.wide-n.ensures in
-    let m = c.wide-m.result in
-    let f = c.wide-m.ensures in
-    let long = head-long w a.version z n m e f in
+    let n = get_or w 0 0 in
+    let m = get_or w 17 0 in
+    let long = head-long w a.version z n m refl refl in
     omega arith
 
 pub slice_bounds-put_bytes-count : goal.slice_bounds-put_bytes-count
@@ -25,11 +24,9 @@ slice_bounds-put_bytes-count c =
     let a = c.args in
     let w = a.list.now in
     let z = c.requires.0 in
-    let n = c.wide-n.result in
-    let e = c.wide-n.ensures in
-    let m = c.wide-m.result in
-    let f = c.wide-m.ensures in
-    let long = head-long w a.version z n m e f in
+    let n = get_or w 0 0 in
+    let m = get_or w 17 0 in
+    let long = head-long w a.version z n m refl refl in
     omega arith
 
 pub slice_bounds-put_bytes-start : goal.slice_bounds-put_bytes-start
@@ -37,11 +34,9 @@ slice_bounds-put_bytes-start c =
     let a = c.args in
     let w = a.list.now in
     let z = c.requires.0 in
-    let n = c.wide-n.result in
-    let e = c.wide-n.ensures in
-    let m = c.wide-m.result in
-    let f = c.wide-m.ensures in
-    let long = head-long w a.version z n m e f in
+    let n = get_or w 0 0 in
+    let m = get_or w 17 0 in
+    let long = head-long w a.version z n m refl refl in
     omega arith
 
 pub put_bytes-requires : goal.put_bytes-requires
@@ -49,24 +44,20 @@ put_bytes-requires c =
     let a = c.args in
     let w = a.list.now in
     let z = c.requires.0 in
-    let n = c.wide-n.result in
-    let e = c.wide-n.ensures in
-    let m = c.wide-m.result in
-    let f = c.wide-m.ensures in
-    let long = head-long w a.version z n m e f in
+    let n = get_or w 0 0 in
+    let m = get_or w 17 0 in
+    let long = head-long w a.version z n m refl refl in
     let o1 = c.write_mark.new.out in
-    (omega arith, part_room 5 (n + 1) o1 (omega arith), head_words_lem w a.version z n e)
+    (omega arith, part_room 5 (n + 1) o1 (omega arith), head_words_lem w a.version z n refl)
 
 pub slice_bounds-put_bytes-count-2 : goal.slice_bounds-put_bytes-count-2
 slice_bounds-put_bytes-count-2 c =
     let a = c.args in
     let w = a.list.now in
     let z = c.requires.0 in
-    let n = c.wide-n.result in
-    let e = c.wide-n.ensures in
-    let m = c.wide-m.result in
-    let f = c.wide-m.ensures in
-    let long = head-long w a.version z n m e f in
+    let n = get_or w 0 0 in
+    let m = get_or w 17 0 in
+    let long = head-long w a.version z n m refl refl in
     omega arith
 
 pub slice_bounds-put_bytes-start-2 : goal.slice_bounds-put_bytes-start-2
@@ -74,11 +65,9 @@ slice_bounds-put_bytes-start-2 c =
     let a = c.args in
     let w = a.list.now in
     let z = c.requires.0 in
-    let n = c.wide-n.result in
-    let e = c.wide-n.ensures in
-    let m = c.wide-m.result in
-    let f = c.wide-m.ensures in
-    let long = head-long w a.version z n m e f in
+    let n = get_or w 0 0 in
+    let m = get_or w 17 0 in
+    let long = head-long w a.version z n m refl refl in
     omega arith
 
 pub put_bytes-requires-2 : goal.put_bytes-requires-2
@@ -86,11 +75,9 @@ put_bytes-requires-2 c =
     let a = c.args in
     let w = a.list.now in
     let z = c.requires.0 in
-    let n = c.wide-n.result in
-    let e = c.wide-n.ensures in
-    let m = c.wide-m.result in
-    let f = c.wide-m.ensures in
-    let long = head-long w a.version z n m e f in
+    let n = get_or w 0 0 in
+    let m = get_or w 17 0 in
+    let long = head-long w a.version z n m refl refl in
     let o1 = c.write_mark.new.out in
     let p2 = c.put_bytes.new.out in
     let o2 = put_mid 5 (length o1 - 5) o1 p2 in
@@ -101,11 +88,9 @@ slice_bounds-write_arrays-count c =
     let a = c.args in
     let w = a.list.now in
     let z = c.requires.0 in
-    let n = c.wide-n.result in
-    let e = c.wide-n.ensures in
-    let m = c.wide-m.result in
-    let f = c.wide-m.ensures in
-    let long = head-long w a.version z n m e f in
+    let n = get_or w 0 0 in
+    let m = get_or w 17 0 in
+    let long = head-long w a.version z n m refl refl in
     omega arith
 
 pub slice_bounds-write_arrays-start : goal.slice_bounds-write_arrays-start
@@ -113,11 +98,9 @@ slice_bounds-write_arrays-start c =
     let a = c.args in
     let w = a.list.now in
     let z = c.requires.0 in
-    let n = c.wide-n.result in
-    let e = c.wide-n.ensures in
-    let m = c.wide-m.result in
-    let f = c.wide-m.ensures in
-    let long = head-long w a.version z n m e f in
+    let n = get_or w 0 0 in
+    let m = get_or w 17 0 in
+    let long = head-long w a.version z n m refl refl in
     omega arith
 
 pub write_arrays-size-requires : goal.write_arrays-size-requires
@@ -125,28 +108,24 @@ write_arrays-size-requires c =
     let a = c.args in
     let w = a.list.now in
     let z = c.requires.0 in
-    let n = c.wide-n.result in
-    let e = c.wide-n.ensures in
-    let m = c.wide-m.result in
-    let f = c.wide-m.ensures in
-    let long = head-long w a.version z n m e f in
+    let n = get_or w 0 0 in
+    let m = get_or w 17 0 in
+    let long = head-long w a.version z n m refl refl in
     let o1 = c.write_mark.new.out in
     let p2 = c.put_bytes.new.out in
     let o2 = put_mid 5 (length o1 - 5) o1 p2 in
     let p3 = c.put_bytes-2.new.out in
     let o3 = put_mid (6 + n) (length o2 - (6 + n)) o2 p3 in
-    (subst (λ (m : ℕ). ArraysKnown w 18 m) (sym f) z.arrays, part_room (7 + n) (length (arrays_bytes_at w 18 m)) o3 (omega arith))
+    (z.arrays, part_room (7 + n) (length (arrays_bytes_at w 18 m)) o3 (omega arith))
 
 pub overflow_add-result-2 : goal.overflow_add-result-2
 overflow_add-result-2 c =
     let a = c.args in
     let w = a.list.now in
     let z = c.requires.0 in
-    let n = c.wide-n.result in
-    let e = c.wide-n.ensures in
-    let m = c.wide-m.result in
-    let f = c.wide-m.ensures in
-    let long = head-long w a.version z n m e f in
+    let n = get_or w 0 0 in
+    let m = get_or w 17 0 in
+    let long = head-long w a.version z n m refl refl in
     omega arith
 
 pub returns : goal.returns
@@ -155,14 +134,12 @@ returns c =
     let w = a.list.now in
     let z = c.requires.0 in
     let room = c.requires.1 in
-    let n = c.wide-n.result in
-    let e = c.wide-n.ensures in
-    let m = c.wide-m.result in
-    let f = c.wide-m.ensures in
+    let n = get_or w 0 0 in
+    let m = get_or w 17 0 in
     let o1 = c.write_mark.new.out in
     let p2 = c.put_bytes.new.out in
     let p3 = c.put_bytes-2.new.out in
     let p4 = c.write_arrays-size.new.out in
     let s = c.write_arrays-size.ensures.long in
-    head_wrote w a.version z n m e f a.out.now o1 p2 p3 p4 c.write_arrays-size.result room c.write_mark.ensures c.put_bytes.ensures c.put_bytes-2.ensures c.write_arrays-size.ensures.frame s in
+    head_wrote w a.version z n m refl refl a.out.now o1 p2 p3 p4 c.write_arrays-size.result room c.write_mark.ensures c.put_bytes.ensures c.put_bytes-2.ensures c.write_arrays-size.ensures.frame s in
     record { long = all.0; frame = all.1 }

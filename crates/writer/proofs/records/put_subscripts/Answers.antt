@@ -1,3 +1,4 @@
+use mathlib.Core.Path.{refl}
 use Rattle.writer.proofs.Subscripts.{dividing_step, dividing_end}
 use Rattle.writer.proofs.records.put_subscripts.Goals as goal
 
@@ -6,7 +7,7 @@ loop-k-preserved c =
     let a = c.args in
     let l = c.loop-k in
     let z = c.requires.0 in
-    dividing_step a.list.now a.at a.n a.cell a.out.now z l.rest l.k l.out l.invariant c.wide-extent.result c.wide-extent.ensures c.loop-k-test.true c.put_half.new.out c.requires.1 c.put_half.ensures
+    dividing_step a.list.now a.at a.n a.cell a.out.now z l.rest l.k l.out l.invariant _ refl c.loop-k-test.true c.put_half.new.out c.requires.1 c.put_half.ensures
 
 pub returns : goal.returns
 returns c =
