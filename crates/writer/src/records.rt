@@ -42,9 +42,7 @@ fn put_subscripts(list: &[u32], at: usize, n: usize, cell: usize, out: &mut [u8]
     ensures { out.new ≡ sets out.old 0 (subscript_bytes list.now at n cell) }
 {
     let mut rest = cell;
-    let mut k = n;
-    while 1 < k {
-        k -= 1;
+    for k in (1..n).rev() {
         let extent = list[at + k] as usize;
         put_half(&mut out[2 * k..], rest % extent);
         rest /= extent;

@@ -3,6 +3,3 @@ use Rattle.writer.proofs.records.put_subscripts.Given as goal
 
 abbrev pub invariant-loop-k : goal.invariant-loop-k
 invariant-loop-k l = Dividing l.list l.at l.n l.cell l.initial.out l.rest l.k l.out
-
-abbrev pub decreases-loop-k : goal.decreases-loop-k
-decreases-loop-k l = l.k
