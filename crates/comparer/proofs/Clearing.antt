@@ -4,9 +4,9 @@ use Prim.Native.Nat.{ℕ, zero, suc, ◌+◌, ◌-◌, ◌*◌, ◌≤◌, ◌<�
 use native.Mathlib.Omega.{arith}
 use mathlib.Core.List.{List, [], ◌∷◌, ◌++◌, append_assoc}
 use mathlib.Core.Bool.{true}
-use lib.ListN.{length, get_or, set, replicate, length-append, length-replicate, get_or-eq_default}
-use lib.Seq.{get_or-append-add}
-use borrow.Author.Fill.{fill_more}
+use lib.ListN.{length, get_or, take, drop, replicate, length-append, length-drop, length-replicate, get_or-eq_default}
+use lib.Seq.{get_or-append-add, length-take-le}
+use borrow.Rule.Slice.PartMut.{put_mid}
 use Rattle.model.specs.Memory.{cleared}
 use Rattle.model.specs.Update.{Tree, Trees, Update, Listed}
 use Rattle.model.specs.Update.Tree.{cell, number, constant, operator}
@@ -47,16 +47,16 @@ emptied_all zero l h z = all_zero_lem l (λ j. z j (omega arith))
 emptied_all (suc n) [] h z = absurd (omega arith)
 emptied_all (suc n) (x ∷ l) h z = ap (λ (r : List ℕ). 0 ∷ r) (emptied_all n l (omega arith) (λ j k. z (suc j) (omega arith)))
 
--- k of n words are emptied
-module _ (from : ℕ) (l₀ : List ℕ) where
-  pub empties_none : Empties from 0 l₀ l₀
-  empties_none l h e = let z : from + 0 ≡ from = omega arith in e ∙ ap (λ (k : ℕ). emptied k l) (sym z)
+-- n words are filled with 0, behind those that are emptied
+put-emptied : (from n : ℕ) (l : List ℕ) → from ≤ length l → put_mid from n (emptied from l) (replicate n 0) ≡ emptied (from + n) l
+put-emptied zero n l h = let z : n ≡ 0 + n = omega arith in ap (λ (k : ℕ). emptied k l) z
+put-emptied (suc from) n [] h = absurd (omega arith)
+put-emptied (suc from) n (x ∷ l) h = let z : suc (from + n) ≡ suc from + n = omega arith in ap (λ (r : List ℕ). 0 ∷ r) (put-emptied from n l (omega arith)) ∙ ap (λ (k : ℕ). emptied k (x ∷ l)) z
 
-  pub empties_more : (l : List ℕ) (k : ℕ) → from + k < length l₀ → Empties from k l₀ l → Empties from (k + 1) l₀ (set l (from + k) 0)
-  empties_more l k b s w h e =
-      let m = ap length e ∙ emptied-length from w h in
-      let z : from + k + 1 ≡ from + (k + 1) = omega arith in
-      ap (λ (r : List ℕ). set r (from + k) 0) (s w h e) ∙ fill_more (from + k) 0 w (omega arith) ∙ ap (λ (k : ℕ). emptied k w) z
+pub empties_filled : (from n k : ℕ) (l filled : List ℕ) → from + n ≤ length l → k ≡ n → filled ≡ replicate (length (take k (drop from l))) 0 → Empties from n l (put_mid from k l filled)
+empties_filled from n k l filled h e f words w b =
+    let z : length (take k (drop from l)) ≡ n = length-take-le k (drop from l) (omega (arith, length-drop from l)) ∙ e in
+    rw (f, z, e, b) (put-emptied from n words w)
 
 -- where the loop ends: l the list, l₁ with its header cleared, l₂ with the words below `at` cleared
 module _ (l l₁ l₂ : List ℕ) (at : ℕ) (ends : Ended l) (h : l₁ ≡ emptied 98 l) (e : l₂ ≡ emptied at l₁) (low : 98 ≤ at) (high : at ≤ 30818) where

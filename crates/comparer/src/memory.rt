@@ -11,11 +11,7 @@ fn clear_words(list: &mut [u32], from: usize, n: usize)
     requires { from + n ≤ length list.old }
     ensures { Empties from n list.old list.new }
 {
-    let mut k: usize = 0;
-    while k < n {
-        list[from + k] = 0;
-        k += 1;
-    }
+    list[from..from + n].fill(0);
 }
 
 // A list that was unrolled, 64 records at a time. No record begins with 0, so nothing stands behind the first that does: a short
