@@ -1,6 +1,6 @@
 -- What the entry over lists replies, from what its parts reply.
 use Rattle.std.specs.Prelude.{if◌then◌else◌}
-use Prim.Native.Nat.{ℕ, ◌≤◌, ◌<◌}
+use Prim.Native.Nat.{ℕ, ◌≤◌}
 use native.Mathlib.Omega.{arith}
 use mathlib.Core.Path.{◌≡◌, refl, sym, ap, ◌∙◌}
 use mathlib.Core.Logic.{⊎_elim}
@@ -9,11 +9,14 @@ use mathlib.Core.Bool.{Bool, true, false, ◌&&◌}
 use mathlib.Core.Option.{some}
 use lib.ListN.{length, replicate, length-replicate}
 use lib.Dec.{leb, eqb}
-use borrow.Author.Tests.{lt-leb, le-leb, leb-true, eqb-true}
+use borrow.Author.Tests.{le-leb, leb-true, eqb-true}
 use Rattle.model.specs.Update.{Listed}
 use Rattle.model.specs.Reply as model
 use Rattle.model.specs.Memory.{list_words, cell_words, term_words, cleared, work_left}
 use Rattle.unroller.specs.Decode.{decode, accepted}
+use Rattle.unroller.specs.CheckAnswers.{checked_says}
+use Rattle.unroller.specs.declared.lists.Checked.{Checked}
+use Rattle.unroller.specs.declared.lists.Checked.TheVariants as checked
 use Rattle.unroller.specs.Unroll as Unroll
 use Rattle.unroller.specs.Unroll.{check_reply}
 use Rattle.unroller.proofs.Parts as parts
@@ -35,18 +38,6 @@ use Rattle.comparer.proofs.Headers.{counted}
 
 -- 25
 module _ (left right cells terms : ℕ) where
-  pub short_left : left < 32768 → false ≡ enough left right cells terms
-  short_left h = rw (lt-leb 32768 left h)
-
-  pub short_right : 32768 ≤ left → right < 32768 → false ≡ enough left right cells terms
-  short_right h g = rw (le-leb 32768 left h, lt-leb 32768 right g)
-
-  pub short-cells : 32768 ≤ left → 32768 ≤ right → cells < 4096 → false ≡ enough left right cells terms
-  short-cells h g k = rw (le-leb 32768 left h, le-leb 32768 right g, lt-leb 4096 cells k)
-
-  pub up_to_terms : 32768 ≤ left → 32768 ≤ right → 4096 ≤ cells → leb 32768 terms ≡ enough left right cells terms
-  up_to_terms h g k = rw (le-leb 32768 left h, le-leb 32768 right g, le-leb 4096 cells k)
-
   pub long : enough left right cells terms ≡ true → (list_words ≤ left) × (list_words ≤ right) × (cell_words ≤ cells) × (term_words ≤ terms)
   long e =
       let a = parts.both (leb list_words left) (leb list_words right && (leb cell_words cells && leb term_words terms)) e in
@@ -73,12 +64,17 @@ module _ (w : List ℕ) where
         by true f = sym f
         by false f = absurd (let g = check_is false f in let z : ◌≡◌ {A = ℕ} 0 1 = cc in omega arith)
 
-    pub says-refused : (k : ℕ) (s : model.Side) → Unroll.refuses s k 0 ≡ check_reply w → false ≡ accepted w
+    says-refused : (k : ℕ) (s : model.Side) → Unroll.refuses s k 0 ≡ check_reply w → false ≡ accepted w
     says-refused k s e = by (accepted w) refl
       where
         by : (b : Bool) → accepted w ≡ b → false ≡ accepted w
         by true f = absurd (let g = check_is true f in let z : ◌≡◌ {A = ℕ} 0 1 = cc in omega arith)
         by false f = sym f
+
+    pub says-other : (r : Checked) → (r ≡ checked.Accepted → ⊥) → checked_says r ≡ check_reply w → false ≡ accepted w
+    says-other checked.Accepted n e = absurd (n refl)
+    says-other checked.Refused n e = says-refused 26 model.left e
+    says-other checked.Short n e = says-refused 25 model.both e
 
   pub decoded_held : (l : Listed) → decode w ≡ some l → Held w l
   decoded_held l e = record { stands = stands w l e; allows = (layout-decode w l e).1 }

@@ -18,16 +18,7 @@ use unroller::{Checked, check_list};
 pub(crate) fn long_enough(left: usize, right: usize, cells: usize, terms: usize) -> bool
     ensures { result ≡ enough left right cells terms }
 {
-    if left < LIST_WORDS {
-        return false;
-    }
-    if right < LIST_WORDS {
-        return false;
-    }
-    if cells < CELL_WORDS {
-        return false;
-    }
-    TERM_WORDS <= terms
+    LIST_WORDS <= left && LIST_WORDS <= right && CELL_WORDS <= cells && TERM_WORDS <= terms
 }
 
 // 22 to 24, of two lists that stand in their slices. Work memory may hold anything.
@@ -56,11 +47,7 @@ fn is_accepted(list: &[u32]) -> bool
     requires { list_words ≤ length list.now }
     ensures { result ≡ accepted list.now }
 {
-    match check_list(list) {
-        Checked::Accepted => true,
-        Checked::Refused => false,
-        Checked::Short => false,
-    }
+    matches!(check_list(list), Checked::Accepted)
 }
 
 // 26 of the left, then of the right, then 22 to 24.
