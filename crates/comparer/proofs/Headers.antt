@@ -1,8 +1,8 @@
 -- Questions 22 and 23, from the words of two headers.
-use Prim.Native.Nat.{ℕ, zero, suc, ◌+◌, ◌-◌, ◌*◌, ◌/◌, ◌%◌, ◌≤◌, ◌<◌, min}
+use Rattle.std.specs.Prelude.{Result, Ok, Err}
+use Prim.Native.Nat.{ℕ, zero, suc, ◌+◌, ◌-◌, ◌*◌, ◌/◌, ◌%◌, ◌≤◌, ◌<◌, min, max}
 use native.Mathlib.Omega.{arith}
 use mathlib.Core.Path.{◌≡◌, refl, sym, ap, ◌∙◌, subst}
-use mathlib.Core.Logic.{◌⊎◌, inl, inr, ⊎_elim}
 use mathlib.Core.List.{List, [], ◌∷◌}
 use mathlib.Core.Bool.{Bool, true, false, ◌||◌, not, and-eq-true_iff}
 use lib.ListN.{length, get_or, take}
@@ -10,7 +10,7 @@ use lib.Seq.{get_or-take, ext_get_or, length-take-le}
 use lib.Dec.{eqb}
 use borrow.Author.Count.{below_more}
 use borrow.Author.Tests.{eq-eqb, ne_eqb}
-use Rattle.model.specs.Test.{every, within}
+use Rattle.model.specs.Test.{every}
 use Rattle.model.specs.Tables as model
 use Rattle.model.specs.Tables.{Array, array_at, local}
 use Rattle.model.specs.Reply.{Reply, refused, both}
@@ -19,10 +19,9 @@ use Rattle.unroller.specs.Stands.{ArrayAt}
 use Rattle.unroller.specs.State.{nowhere}
 use Rattle.unroller.proofs.Parts as parts
 use Rattle.comparer.specs.Match.{same_numbers, same_array, non_local, same_table}
-use Rattle.comparer.specs.Headers.{Heads, Counted, Leads, FirstApart, Ends, answered, ArraysTell, OperatorsTell, TablesTell}
-use Rattle.comparer.specs.declared.tables.Table.{Table}
-use Rattle.comparer.specs.declared.tables.Table.TheVariants as table
-use Rattle.comparer.specs.declared.tables.Tables.TheVariants as tables
+use Rattle.comparer.specs.Headers.{Heads, Counted, Leads, FirstApart, ArraysTell, OperatorsTell, TablesTell}
+use Rattle.comparer.specs.declared.tables.Unequal.{Unequal}
+use Rattle.comparer.specs.declared.tables.Unequal.TheVariants as unequal
 use Rattle.comparer.proofs.SameTables.{same_array_sound, same_numbers_lem, after-local, non_local_none}
 
 -- two tables that are alike before number k, and not at it
@@ -36,43 +35,29 @@ module _ {A : Type 0} (alike : A → A → Bool) (question : ℕ) (agreed : Repl
   later : (k : ℕ) (x y : A) (xs ys : List A) → Alike (suc k) (x ∷ xs) (y ∷ ys) → Alike k xs ys
   later k x y xs ys (a, b, e, f) = (omega arith, omega arith, λ j h. e (suc j) (omega arith), λ h g. f (omega arith) (omega arith))
 
-  table_differs : (s k : ℕ) (xs ys : List A) → Alike k xs ys → (k < length xs) ⊎ (k < length ys) → same_table alike question agreed s xs ys ≡ refused both question (s + k)
-  table_differs s zero [] [] h w = absurd (⊎_elim (λ l. omega arith) (λ l. omega arith) w)
-  table_differs s zero [] (y ∷ ys) h w = ap (refused both question) (omega arith)
-  table_differs s zero (x ∷ xs) [] h w = ap (refused both question) (omega arith)
-  table_differs s zero (x ∷ xs) (y ∷ ys) h w = let e : s + 0 ≡ s = omega arith in rw (h.3 (omega arith) (omega arith), e)
-  table_differs s (suc k) [] ys h w = let l = h.0 in absurd (omega arith)
-  table_differs s (suc k) (x ∷ xs) [] h w = let l = h.1 in absurd (omega arith)
-  table_differs s (suc k) (x ∷ xs) (y ∷ ys) h w =
+  table_differs : (s k : ℕ) (xs ys : List A) → Alike k xs ys → k < max (length xs) (length ys) → same_table alike question agreed s xs ys ≡ refused both question (s + k)
+  table_differs s zero [] [] h l = absurd (omega arith)
+  table_differs s zero [] (y ∷ ys) h l = ap (refused both question) (omega arith)
+  table_differs s zero (x ∷ xs) [] h l = ap (refused both question) (omega arith)
+  table_differs s zero (x ∷ xs) (y ∷ ys) h l = let e : s + 0 ≡ s = omega arith in rw (h.3 (omega arith) (omega arith), e)
+  table_differs s (suc k) [] ys h l = let a = h.0 in absurd (omega arith)
+  table_differs s (suc k) (x ∷ xs) [] h l = let a = h.1 in absurd (omega arith)
+  table_differs s (suc k) (x ∷ xs) (y ∷ ys) h l =
       let e : s + suc k ≡ suc s + k = omega arith in
-      rw (h.2 0 (omega arith), e) (table_differs (suc s) k xs ys (later k x y xs ys h) (⊎_elim (λ l. inl (omega arith)) (λ l. inr (omega arith)) w))
+      rw (h.2 0 (omega arith), e) (table_differs (suc s) k xs ys (later k x y xs ys h) (omega arith))
 
-  table_agrees : (s k : ℕ) (xs ys : List A) → Alike k xs ys → length xs ≤ k → length ys ≤ k → same_table alike question agreed s xs ys ≡ agreed
-  table_agrees s k [] [] h l m = refl
-  table_agrees s k [] (y ∷ ys) h l m = let a = h.0 in absurd (omega arith)
-  table_agrees s k (x ∷ xs) [] h l m = let a = h.1 in absurd (omega arith)
-  table_agrees s zero (x ∷ xs) (y ∷ ys) h l m = absurd (omega arith)
-  table_agrees s (suc k) (x ∷ xs) (y ∷ ys) h l m = rw (h.2 0 (omega arith)) (table_agrees (suc s) k xs ys (later k x y xs ys h) (omega arith) (omega arith))
+  table_agrees : (s k : ℕ) (xs ys : List A) → Alike k xs ys → max (length xs) (length ys) ≤ k → same_table alike question agreed s xs ys ≡ agreed
+  table_agrees s k [] [] h l = refl
+  table_agrees s k [] (y ∷ ys) h l = let a = h.0 in absurd (omega arith)
+  table_agrees s k (x ∷ xs) [] h l = let a = h.1 in absurd (omega arith)
+  table_agrees s zero (x ∷ xs) (y ∷ ys) h l = absurd (omega arith)
+  table_agrees s (suc k) (x ∷ xs) (y ∷ ys) h l = rw (h.2 0 (omega arith)) (table_agrees (suc s) k xs ys (later k x y xs ys h) (omega arith))
 
-  table_tells : (k : ℕ) (xs ys : List A) (r : Table) → Alike k xs ys → Ends k (length xs) (length ys) r → same_table alike question agreed 0 xs ys ≡ answered question agreed r
-  unfolding Ends
-  table_tells k xs ys table.Same h e = table_agrees 0 k xs ys h e.0 e.1
-  table_tells k xs ys (table.Differs j) h e =
-      let z : 0 + k ≡ j = let p = e.0 in omega arith in
-      table_differs 0 k xs ys h e.1 ∙ ap (refused both question) z
-
--- what an answer is made from
-pub ends_left : (k n m : ℕ) → k < n → Ends k n m (table.Differs k)
-unfolding Ends
-ends_left k n m h = (refl, inl h)
-
-pub ends_right : (k n m : ℕ) → k < m → Ends k n m (table.Differs k)
-unfolding Ends
-ends_right k n m h = (refl, inr h)
-
-pub ends-both : (k n m : ℕ) → n ≤ k → m ≤ k → Ends k n m table.Same
-unfolding Ends
-ends-both k n m h g = (h, g)
+  -- number k, that of the first entry that differs, or the length of both
+  pub table_at : (k : ℕ) (xs ys : List A) → Alike k xs ys
+      → (k < max (length xs) (length ys) → same_table alike question agreed 0 xs ys ≡ refused both question k)
+      × (max (length xs) (length ys) ≤ k → same_table alike question agreed 0 xs ys ≡ agreed)
+  table_at k xs ys h = (λ l. let z : 0 + k ≡ k = omega arith in table_differs 0 k xs ys h l ∙ ap (refused both question) z, λ l. table_agrees 0 k xs ys h l)
 
 -- headers
 module _ (list : List ℕ) (t : model.Tables) (h : Heads list t) where
@@ -150,64 +135,82 @@ extents-few (x ∷ xs) (suc a) e l = extents-few xs a (parts.both (allowed_array
 
 module _ (left right : List ℕ) where
   -- Same non-local arrays? An array is five words.
-  pub arrays_tell : (n m i : ℕ) (r : Table) → Leads left n → Leads right m → (end : ℕ) → FirstApart left right 18 end i → end ≡ 18 + 5 * min n m → Ends ((i - 18) / 5) n m r → ArraysTell left right r
-  unfolding ArraysTell Same
-  arrays_tell n m i r p q end f within e x y h g agreed =
-      let k : ℕ = (i - 18) / 5 in
-      let xs = x.arrays in
-      let ys = y.arrays in
-      let a = leading left x h n p in
-      let b = leading right y g m q in
-      let l = length-take-le n xs a.1 in
-      let o = length-take-le m ys b.1 in
-      let low = f.low in
-      let high = f.high in
-      let start : (j : ℕ) → j < length xs → ArrayAt left (18 + 5 * j) (array_at xs j) = h.header.array in
-      let other : (j : ℕ) → j < length ys → ArrayAt right (18 + 5 * j) (array_at ys j) = g.header.array in
-      let same : (j : ℕ) → j < k → same_array (array_at (take n xs) j) (array_at (take m ys) j) ≡ true =
-      λ j c. rw (get_or-take n xs j nowhere (omega arith), get_or-take m ys j nowhere (omega arith))
-      (words_same left right (18 + 5 * j) (array_at xs j) (array_at ys j) (start j (omega arith)) (other j (omega arith))
-      (extents-few xs j (parts.tables-parts x h.allows).each (omega arith)) (λ d s. f.same (18 + 5 * j + d) (omega arith) (omega arith))) in
-      let apart : k < length (take n xs) → k < length (take m ys) → same_array (array_at (take n xs) k) (array_at (take m ys) k) ≡ false =
-      λ c s.
-      let w : 18 + 5 * k + (i - 18) % 5 ≡ i = omega arith in
-      rw (get_or-take n xs k nowhere (omega arith), get_or-take m ys k nowhere (omega arith))
-      (words-apart left right (18 + 5 * k) (array_at xs k) (array_at ys k) (start k (omega arith)) (other k (omega arith))
-      ((i - 18) % 5) (omega arith) (λ z. f.apart (omega arith) (rw w at z))) in
-      rw (a.0, b.0) (table_tells same_array 22 agreed nowhere k (take n xs) (take m ys) r (omega arith, omega arith, same, apart) (rw (l, o) e))
+  module _ (n m end i : ℕ) (p : Leads left n) (q : Leads right m) (f : FirstApart left right 18 end i) (within : end ≡ 18 + 5 * min n m) where
+    arrays_at : (agreed : Reply) (x y : model.Tables) → Heads left x → Heads right y → let k = (i - 18) / 5 in
+        (k < max n m → same_table same_array 22 agreed 0 (non_local x.arrays) (non_local y.arrays) ≡ refused both 22 k)
+        × (max n m ≤ k → same_table same_array 22 agreed 0 (non_local x.arrays) (non_local y.arrays) ≡ agreed)
+    unfolding Same
+    arrays_at agreed x y h g =
+        let k : ℕ = (i - 18) / 5 in
+        let xs = x.arrays in
+        let ys = y.arrays in
+        let a = leading left x h n p in
+        let b = leading right y g m q in
+        let l = length-take-le n xs a.1 in
+        let o = length-take-le m ys b.1 in
+        let low = f.low in
+        let high = f.high in
+        let start : (j : ℕ) → j < length xs → ArrayAt left (18 + 5 * j) (array_at xs j) = h.header.array in
+        let other : (j : ℕ) → j < length ys → ArrayAt right (18 + 5 * j) (array_at ys j) = g.header.array in
+        let same : (j : ℕ) → j < k → same_array (array_at (take n xs) j) (array_at (take m ys) j) ≡ true =
+        λ j c. rw (get_or-take n xs j nowhere (omega arith), get_or-take m ys j nowhere (omega arith))
+        (words_same left right (18 + 5 * j) (array_at xs j) (array_at ys j) (start j (omega arith)) (other j (omega arith))
+        (extents-few xs j (parts.tables-parts x h.allows).each (omega arith)) (λ d s. f.same (18 + 5 * j + d) (omega arith) (omega arith))) in
+        let apart : k < length (take n xs) → k < length (take m ys) → same_array (array_at (take n xs) k) (array_at (take m ys) k) ≡ false =
+        λ c s.
+        let w : 18 + 5 * k + (i - 18) % 5 ≡ i = omega arith in
+        rw (get_or-take n xs k nowhere (omega arith), get_or-take m ys k nowhere (omega arith))
+        (words-apart left right (18 + 5 * k) (array_at xs k) (array_at ys k) (start k (omega arith)) (other k (omega arith))
+        ((i - 18) % 5) (omega arith) (λ z. f.apart (omega arith) (rw w at z))) in
+        rw (a.0, b.0) (rw (l, o) at (table_at same_array 22 agreed nowhere k (take n xs) (take m ys) (omega arith, omega arith, same, apart)))
+
+    pub arrays-differ : (i - 18) / 5 < max n m → ArraysTell left right (Err (unequal.Arrays ((i - 18) / 5)))
+    unfolding ArraysTell
+    arrays-differ l x y h g agreed = (arrays_at agreed x y h g).0 l
+
+    pub arrays_agree : max n m ≤ (i - 18) / 5 → ArraysTell left right (Ok tt)
+    unfolding ArraysTell
+    arrays_agree l x y h g agreed = (arrays_at agreed x y h g).1 l
 
   -- Same operator tables? An operator is one word.
-  pub operators_tell : (i : ℕ) (r : Table) → FirstApart left right 1 (1 + min (get_or left 0 0) (get_or right 0 0)) i → Ends (i - 1) (get_or left 0 0) (get_or right 0 0) r → OperatorsTell left right r
-  unfolding OperatorsTell
-  operators_tell i r f e x y h g agreed =
-      let k : ℕ = i - 1 in
-      let xs = x.operators in
-      let ys = y.operators in
-      let n = h.header.operators in
-      let m = g.header.operators in
-      let c = (counted left x h).operators in
-      let d = (counted right y g).operators in
-      let low = f.low in
-      let high = f.high in
-      let same : (j : ℕ) → j < k → eqb (get_or xs j 0) (get_or ys j 0) ≡ true =
-      λ j s. eq-eqb (get_or xs j 0) (get_or ys j 0) (sym (h.header.word j (omega arith)) ∙ f.same (1 + j) (omega arith) (omega arith) ∙ g.header.word j (omega arith)) in
-      let apart : k < length xs → k < length ys → eqb (get_or xs k 0) (get_or ys k 0) ≡ false =
-      λ s t.
-      let w : 1 + k ≡ i = omega arith in
-      ne_eqb (get_or xs k 0) (get_or ys k 0) (λ z. f.apart (omega arith) (rw w at (h.header.word k (omega arith) ∙ z ∙ sym (g.header.word k (omega arith))))) in
-      table_tells eqb 23 agreed 0 k xs ys r (omega arith, omega arith, same, apart) (rw (n, m) at e)
+  module _ (i : ℕ) (f : FirstApart left right 1 (1 + min (get_or left 0 0) (get_or right 0 0)) i) where
+    operators_at : (agreed : Reply) (x y : model.Tables) → Heads left x → Heads right y
+        → (i - 1 < max (get_or left 0 0) (get_or right 0 0) → same_table eqb 23 agreed 0 x.operators y.operators ≡ refused both 23 (i - 1))
+        × (max (get_or left 0 0) (get_or right 0 0) ≤ i - 1 → same_table eqb 23 agreed 0 x.operators y.operators ≡ agreed)
+    operators_at agreed x y h g =
+        let k : ℕ = i - 1 in
+        let xs = x.operators in
+        let ys = y.operators in
+        let n = h.header.operators in
+        let m = g.header.operators in
+        let c = (counted left x h).operators in
+        let d = (counted right y g).operators in
+        let low = f.low in
+        let high = f.high in
+        let same : (j : ℕ) → j < k → eqb (get_or xs j 0) (get_or ys j 0) ≡ true =
+        λ j s. eq-eqb (get_or xs j 0) (get_or ys j 0) (sym (h.header.word j (omega arith)) ∙ f.same (1 + j) (omega arith) (omega arith) ∙ g.header.word j (omega arith)) in
+        let apart : k < length xs → k < length ys → eqb (get_or xs k 0) (get_or ys k 0) ≡ false =
+        λ s t.
+        let w : 1 + k ≡ i = omega arith in
+        ne_eqb (get_or xs k 0) (get_or ys k 0) (λ z. f.apart (omega arith) (rw w at (h.header.word k (omega arith) ∙ z ∙ sym (g.header.word k (omega arith))))) in
+        rw (n, m) (table_at eqb 23 agreed 0 k xs ys (omega arith, omega arith, same, apart))
 
-  pub arrays-differ : (a : ℕ) → ArraysTell left right (table.Differs a) → TablesTell left right (tables.Arrays a)
+    pub operators-differ : i - 1 < max (get_or left 0 0) (get_or right 0 0) → OperatorsTell left right (Err (unequal.Operators (i - 1)))
+    unfolding OperatorsTell
+    operators-differ l x y h g agreed = (operators_at agreed x y h g).0 l
+
+    pub operators_agree : max (get_or left 0 0) (get_or right 0 0) ≤ i - 1 → OperatorsTell left right (Ok tt)
+    unfolding OperatorsTell
+    operators_agree l x y h g agreed = (operators_at agreed x y h g).1 l
+
+  pub tables_unequal : (a : Unequal) → ArraysTell left right (Err a) → TablesTell left right (Err a)
   unfolding ArraysTell TablesTell
-  arrays-differ a p x y h g agreed = p x y h g (same_table eqb 23 agreed 0 x.operators y.operators)
+  tables_unequal (unequal.Arrays a) p x y h g agreed = p x y h g (same_table eqb 23 agreed 0 x.operators y.operators)
+  tables_unequal (unequal.Operators o) p x y h g agreed = p x y h g (same_table eqb 23 agreed 0 x.operators y.operators)
 
-  pub operators-differ : (o : ℕ) → ArraysTell left right table.Same → OperatorsTell left right (table.Differs o) → TablesTell left right (tables.Operators o)
+  pub tables_as : (r : Result Unit Unequal) → ArraysTell left right (Ok tt) → OperatorsTell left right r → TablesTell left right r
   unfolding ArraysTell OperatorsTell TablesTell
-  operators-differ o p q x y h g agreed = p x y h g (same_table eqb 23 agreed 0 x.operators y.operators) ∙ q x y h g agreed
-
-  pub tables_agree : ArraysTell left right table.Same → OperatorsTell left right table.Same → TablesTell left right tables.Same
-  unfolding ArraysTell OperatorsTell TablesTell
-  tables_agree p q x y h g agreed = p x y h g (same_table eqb 23 agreed 0 x.operators y.operators) ∙ q x y h g agreed
+  tables_as r p q x y h g agreed = p x y h g (same_table eqb 23 agreed 0 x.operators y.operators) ∙ q x y h g agreed
 
 -- one more word that is the same
 pub same_more : (left right : List ℕ) (from i : ℕ) → ((j : ℕ) → from ≤ j → j < i → get_or left j 0 ≡ get_or right j 0) → get_or left i 0 ≡ get_or right i 0

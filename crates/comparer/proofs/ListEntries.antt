@@ -1,5 +1,5 @@
 -- What the entry over lists replies, from what its parts reply.
-use Rattle.std.specs.Prelude.{if◌then◌else◌}
+use Rattle.std.specs.Prelude.{Ok, Err, if◌then◌else◌}
 use Prim.Native.Nat.{ℕ, ◌≤◌}
 use native.Mathlib.Omega.{arith}
 use mathlib.Core.Path.{◌≡◌, refl, sym, ap, ◌∙◌}
@@ -32,7 +32,7 @@ use Rattle.comparer.specs.Headers.{Heads, Counted, tables_reply, TablesTell}
 use Rattle.comparer.specs.declared.reply.Reply.{Reply}
 use Rattle.comparer.specs.declared.reply.Reply.TheVariants as reply
 use Rattle.comparer.specs.declared.reply.Side.TheVariants as side
-use Rattle.comparer.specs.declared.tables.Tables.TheVariants as tables
+use Rattle.comparer.specs.declared.tables.Unequal.TheVariants as unequal
 use Rattle.comparer.proofs.SameTables.{same_array_sound, tables_cases}
 use Rattle.comparer.proofs.Headers.{counted}
 
@@ -90,16 +90,16 @@ accepted-counted w e = let x = accepted-words w e in held-counted (decoded_held 
 
 -- 22 to 24
 module _ (left right : List ℕ) (mask : ℕ) (cells terms : List ℕ) where
-  pub asked_arrays : (a : ℕ) → TablesTell left right (tables.Arrays a) → Asked left right mask cells terms (reply.Refused side.Both 22 a)
+  pub asked_arrays : (a : ℕ) → TablesTell left right (Err (unequal.Arrays a)) → Asked left right mask cells terms (reply.Refused side.Both 22 a)
   unfolding Asked TablesTell lists_reply
   asked_arrays a t l r h g room = sym (t l.tables r.tables (held_heads h) (held_heads g) (matched mask l r))
 
-  pub asked_operators : (o : ℕ) → TablesTell left right (tables.Operators o) → Asked left right mask cells terms (reply.Refused side.Both 23 o)
+  pub asked_operators : (o : ℕ) → TablesTell left right (Err (unequal.Operators o)) → Asked left right mask cells terms (reply.Refused side.Both 23 o)
   unfolding Asked TablesTell lists_reply
   asked_operators o t l r h g room = sym (t l.tables r.tables (held_heads h) (held_heads g) (matched mask l r))
 
   -- where the tables agree, the non-local arrays are the same
-  same_arrays : TablesTell left right tables.Same → (l r : Listed) → Held left l → Held right r → non_local l.tables.arrays ≡ non_local r.tables.arrays
+  same_arrays : TablesTell left right (Ok tt) → (l r : Listed) → Held left l → Held right r → non_local l.tables.arrays ≡ non_local r.tables.arrays
   unfolding TablesTell
   same_arrays t l r h g =
       ⊎_elim (λ p. p.0) (λ p. absurd (apart p.0 (sym (t l.tables r.tables (held_heads h) (held_heads g) (model.equal 0)) ∙ p.1)))
@@ -109,7 +109,7 @@ module _ (left right : List ℕ) (mask : ℕ) (cells terms : List ℕ) where
       apart j e = let z : ◌≡◌ {A = ℕ} 0 1 = cc in omega arith
 
   -- and so are the operators, marks included
-  same_operators : TablesTell left right tables.Same → (l r : Listed) → Held left l → Held right r → l.tables.operators ≡ r.tables.operators
+  same_operators : TablesTell left right (Ok tt) → (l r : Listed) → Held left l → Held right r → l.tables.operators ≡ r.tables.operators
   unfolding TablesTell
   same_operators t l r h g =
       ⊎_elim (λ p. p.0) (λ p. absurd (apart p.0 (sym (t l.tables r.tables (held_heads h) (held_heads g) (model.equal 0)) ∙ arrays ∙ p.1)))
@@ -126,7 +126,7 @@ module _ (left right : List ℕ) (mask : ℕ) (cells terms : List ℕ) where
           other : (j : ℕ) → model.equal 0 ≡ model.refused model.both 22 j → ⊥
           other j e = let z : ◌≡◌ {A = ℕ} 0 1 = cc in omega arith
 
-  pub asked_match : (c t : List ℕ) (r : Reply) → TablesTell left right tables.Same → c ≡ cleared cells → t ≡ cleared terms → Matches left right mask c t r → Asked left right mask cells terms r
+  pub asked_match : (c t : List ℕ) (r : Reply) → TablesTell left right (Ok tt) → c ≡ cleared cells → t ≡ cleared terms → Matches left right mask c t r → Asked left right mask cells terms r
   unfolding Asked TablesTell Matches lists_reply
   asked_match c t r tell e f m x y h g room =
       let p : length c ≡ length cells = ap length e ∙ length-replicate (length cells) 0 in

@@ -1,14 +1,12 @@
 -- The tables of two lists, word by word: what the code finds of questions 22 and 23, and the bits of the out arrays.
-use Rattle.std.specs.Prelude.{ℕ, zero, suc, ◌+◌, ◌*◌, ◌≤◌, ◌<◌, ◌≡◌, ◌⊎◌, List, true, cond, length, get_or, eqb}
+use Rattle.std.specs.Prelude.{ℕ, zero, suc, ◌+◌, ◌*◌, ◌≤◌, ◌<◌, ◌≡◌, List, Result, Ok, Err, true, cond, length, get_or, eqb}
 use Rattle.model.specs.Tables as model
 use Rattle.model.specs.Reply.{Reply, refused, both}
 use Rattle.unroller.specs.Allowed.{allowed_tables}
 use Rattle.unroller.specs.Stands.{HeaderAt}
 use Rattle.comparer.specs.Match.{same_array, non_local, same_table}
-use Rattle.comparer.specs.declared.tables.Table.{Table}
-use Rattle.comparer.specs.declared.tables.Table.TheVariants as table
-use Rattle.comparer.specs.declared.tables.Tables.{Tables}
-use Rattle.comparer.specs.declared.tables.Tables.TheVariants as tables
+use Rattle.comparer.specs.declared.tables.Unequal.{Unequal}
+use Rattle.comparer.specs.declared.tables.Unequal.TheVariants as unequal
 
 -- the words hold tables that the file allows
 pub record Heads (list : List ℕ) (t : model.Tables) : Type 0 where
@@ -39,31 +37,22 @@ pub record FirstApart (left right : List ℕ) (from to i : ℕ) : Type 0 where
   pub same : (j : ℕ) → from ≤ j → j < i → get_or left j 0 ≡ get_or right j 0
   pub apart : i < to → get_or left i 0 ≡ get_or right i 0 → ⊥
 
--- tables of n and m entries that are alike before number k, and not at it
-unfoldable pub Ends : ℕ → ℕ → ℕ → Table → Type 0
-Ends k n m table.Same = (n ≤ k) × (m ≤ k)
-Ends k n m (table.Differs j) = (j ≡ k) × ((k < n) ⊎ (k < m))
+-- the reply that an answer stands for, where it is `agreed` for tables that agree
+abbrev pub told_reply : Reply → Result Unit Unequal → Reply
+told_reply agreed (Ok _) = agreed
+told_reply agreed (Err (unequal.Arrays a)) = refused both 22 a
+told_reply agreed (Err (unequal.Operators o)) = refused both 23 o
 
--- the reply that an answer to this question stands for
-abbrev pub answered : ℕ → Reply → Table → Reply
-answered question agreed table.Same = agreed
-answered question agreed (table.Differs k) = refused both question k
-
-unfoldable pub ArraysTell : List ℕ → List ℕ → Table → Type 0
+unfoldable pub ArraysTell : List ℕ → List ℕ → Result Unit Unequal → Type 0
 ArraysTell left right r =
-    (x y : model.Tables) → Heads left x → Heads right y → (agreed : Reply) → same_table same_array 22 agreed 0 (non_local x.arrays) (non_local y.arrays) ≡ answered 22 agreed r
+    (x y : model.Tables) → Heads left x → Heads right y → (agreed : Reply) → same_table same_array 22 agreed 0 (non_local x.arrays) (non_local y.arrays) ≡ told_reply agreed r
 
-unfoldable pub OperatorsTell : List ℕ → List ℕ → Table → Type 0
-OperatorsTell left right r = (x y : model.Tables) → Heads left x → Heads right y → (agreed : Reply) → same_table eqb 23 agreed 0 x.operators y.operators ≡ answered 23 agreed r
+unfoldable pub OperatorsTell : List ℕ → List ℕ → Result Unit Unequal → Type 0
+OperatorsTell left right r = (x y : model.Tables) → Heads left x → Heads right y → (agreed : Reply) → same_table eqb 23 agreed 0 x.operators y.operators ≡ told_reply agreed r
 
 -- 22, then 23
 abbrev pub tables_reply : Reply → model.Tables → model.Tables → Reply
 tables_reply agreed x y = same_table same_array 22 (same_table eqb 23 agreed 0 x.operators y.operators) 0 (non_local x.arrays) (non_local y.arrays)
 
-abbrev pub told_reply : Reply → Tables → Reply
-told_reply agreed tables.Same = agreed
-told_reply agreed (tables.Arrays a) = refused both 22 a
-told_reply agreed (tables.Operators o) = refused both 23 o
-
-unfoldable pub TablesTell : List ℕ → List ℕ → Tables → Type 0
+unfoldable pub TablesTell : List ℕ → List ℕ → Result Unit Unequal → Type 0
 TablesTell left right r = (x y : model.Tables) → Heads left x → Heads right y → (agreed : Reply) → tables_reply agreed x y ≡ told_reply agreed r

@@ -9,7 +9,7 @@ ghost use Rattle.comparer.specs.Headers.{Counted};
 
 use crate::compare::match_lists;
 use crate::reply::{Reply, Side};
-use crate::tables::{Tables, tables_reply};
+use crate::tables::{Unequal, tables};
 use model::memory::clear;
 use model::sizes::{CELL_WORDS, LIST_WORDS, TERM_WORDS};
 use unroller::{Checked, check_list};
@@ -32,10 +32,10 @@ pub(crate) fn compared(
     requires { Counted left.now × Counted right.now }
     ensures { Asked left.now right.now mask cells.old terms.old result }
 {
-    match tables_reply(left, right) {
-        Tables::Arrays(a) => Reply::Refused(Side::Both, 22, a),
-        Tables::Operators(o) => Reply::Refused(Side::Both, 23, o),
-        Tables::Same => {
+    match tables(left, right) {
+        Err(Unequal::Arrays(a)) => Reply::Refused(Side::Both, 22, a),
+        Err(Unequal::Operators(o)) => Reply::Refused(Side::Both, 23, o),
+        Ok(()) => {
             clear(cells);
             clear(terms);
             match_lists(left, right, mask, cells, terms)

@@ -1,6 +1,9 @@
 use native.Mathlib.Omega.{arith}
-use Rattle.comparer.proofs.Headers.{arrays_tell}
+use Rattle.comparer.proofs.Headers.{arrays-differ, arrays_agree}
 use Rattle.comparer.proofs.tables.arrays.Goals as goal
 
+pub returns-then-a-max : goal.returns-then-a-max
+returns-then-a-max c = arrays-differ _ _ _ _ _ _ c.non_locals-n.ensures c.non_locals-m.ensures c.first_apart.ensures (omega arith) (omega arith)
+
 pub returns : goal.returns
-returns c = arrays_tell _ _ c.non_locals-n.result c.non_locals-m.result c.first_apart.result _ c.non_locals-n.ensures c.non_locals-m.ensures _ c.first_apart.ensures (omega (arith, c.least.ensures)) c.ended.ensures
+returns c = arrays_agree _ _ _ _ _ _ c.non_locals-n.ensures c.non_locals-m.ensures c.first_apart.ensures (omega arith) (omega arith)
