@@ -13,8 +13,17 @@ use Rattle.terms.specs.Term.{alike}
 use Rattle.terms.specs.Stored.{Ref, Starts}
 use Rattle.terms.proofs.Alike.{alike_sym, alike_same}
 use Rattle.terms.proofs.Members.{untrue}
-use Rattle.terms.proofs.Laws.{same_id}
+use Rattle.terms.specs.Store.{start_says, starts_at}
+use Rattle.terms.specs.declared.Start.{Start}
+use Rattle.terms.specs.declared.Start.TheVariants as start
+use Rattle.terms.proofs.Laws.{same_id, starts, starts-short}
 use Rattle.comparer.specs.Comparing.{Agrees, BothGiven}
+
+-- what is no start, or has no answer, is not alike
+pub starts-other : (m : List ℕ) (r a c : ℕ) (b : Start) → (b ≡ start.Yes → ⊥) → start_says b ≡ starts_at m r a c → Starts m r a c false
+starts-other m r a c start.Yes n e = absurd (n refl)
+starts-other m r a c start.No n e = starts m r a c false e
+starts-other m r a c start.Short n e = starts-short m r a c false e
 
 both_ways : (swaps : ℕ → Bool) (t u : Tree) → alike swaps t u ≡ alike swaps u t
 both_ways swaps t u = go (alike swaps t u) refl
@@ -55,9 +64,9 @@ module _ (m : List ℕ) (x y a c : ℕ) where
       go (inr f) (inr g) = absurd (omega (arith, g.some))
       go (inr f) (inl g) = B swaps count ts t S f ∙ ap (alike swaps t) (sym g.1)
 
-  pub agrees_apart : (x ≡ y → ⊥) → (x ≡ 0 → ⊥) → (y ≡ 0 → ⊥) → Agrees m x y a c false
+  pub agrees_apart : (x ≡ y → ⊥) → (x ≡ 0 → ⊥) → (y ≡ 0 → ⊥) → (b : Bool) → b ≡ false → Agrees m x y a c b
   unfolding Agrees
-  agrees_apart n v w swaps count ts t u S p q = go p q
+  agrees_apart n v w b e swaps count ts t u S p q = e ∙ go p q
     where
       go : Showing swaps ts x t → Showing swaps ts y u → false ≡ alike swaps t u
       go (inl f) g = absurd (v f.0)
@@ -70,9 +79,9 @@ module _ (m : List ℕ) (x y a c : ℕ) where
     unfolding Agrees BothGiven
     given_inout i b A swaps count ts t u S p q = rw (eq-eqb role 2 i) (A swaps count ts t u S p q)
 
-    pub given-not : (role ≡ 2 → ⊥) → x ≡ 0 → BothGiven m (eqb role 2) x y a c false
+    pub given-not : (role ≡ 2 → ⊥) → x ≡ 0 → (b : Bool) → b ≡ false → BothGiven m (eqb role 2) x y a c b
     unfolding BothGiven
-    given-not i e swaps count ts t u S p q = rw (ne_eqb role 2 i, e)
+    given-not i e b f swaps count ts t u S p q = rw (f, ne_eqb role 2 i, e)
 
     pub given_same : (role ≡ 2 → ⊥) → (x ≡ 0 → ⊥) → BothGiven m (eqb role 2) x y a c (eqb x y)
     unfolding BothGiven
@@ -82,4 +91,4 @@ module _ (m : List ℕ) (x y a c : ℕ) where
         go true e true z = absurd (n (eqb-true x y e ∙ eqb-true y 0 z))
         go true e false z = unfold Agrees in agrees_same (eqb-true x y e) swaps count ts t u S p q
         go false e true z = refl
-        go false e false z = unfold Agrees in agrees_apart (eqb-false x y e) n (eqb-false y 0 z) swaps count ts t u S p q
+        go false e false z = unfold Agrees in agrees_apart (eqb-false x y e) n (eqb-false y 0 z) false refl swaps count ts t u S p q

@@ -1,5 +1,6 @@
 -- What `first_cell` and `first_array` answer, round by round: what answers the rest answers the whole.
 use mathlib.Core.Path.{◌≡◌, refl, sym, ap, ap₂, ◌∙◌, subst, subst₂}
+use mathlib.Core.Logic.{◌⊎◌, inl, inr}
 use mathlib.Core.Bool.{Bool, true, false, ◌&&◌, cond}
 use mathlib.Core.List.{List, [], ◌∷◌}
 use Prim.Native.Nat.{ℕ, zero, suc, ◌+◌, ◌-◌, ◌≤◌, ◌<◌}
@@ -25,20 +26,17 @@ use Rattle.comparer.proofs.Sizes.{count-few, compared_is, inout_is, size-cells}
 -- ---- first_cell_lem
 module _ (left right m : List ℕ) (inout : Bool) (p q a size : ℕ) where
   -- no array has its cells outside
-  pub cells_outside_left : false ≡ leb (p + size) (length left) → (d : ℕ) → FirstCell left right m inout p q a size 0 d
+  pub cells_outside : (leb (p + size) (length left) ≡ false) ⊎ (leb (q + size) (length right) ≡ false) → (d : ℕ) → FirstCell left right m inout p q a size 0 d
   unfolding FirstCell
-  cells_outside_left h d swaps l r S found none = absurd (omega (arith, leb-false (p + size) (length left) (sym h), S.left_room))
-
-  pub cells_outside_right : false ≡ leb (q + size) (length right) → (d : ℕ) → FirstCell left right m inout p q a size 0 d
-  unfolding FirstCell
-  cells_outside_right h d swaps l r S found none = absurd (omega (arith, leb-false (q + size) (length right) (sym h), S.right_room))
+  cells_outside (inl h) d swaps l r S found none = absurd (omega (arith, leb-false (p + size) (length left) h, S.left_room))
+  cells_outside (inr h) d swaps l r S found none = absurd (omega (arith, leb-false (q + size) (length right) h, S.right_room))
 
   module _ (c : ℕ) where
-    pub cell_end : size ≤ c → FirstCell left right m inout p q a size c c
+    pub cell_end : size ≤ c → FirstCell left right m inout p q a size c size
     unfolding FirstCell
     cell_end h swaps l r S found none =
         let e : size - c ≡ 0 = omega arith in
-        rw (e, le-ltb c size h)
+        rw (e, le-ltb size size (omega arith))
 
     module _ (h : c < size) (b : Bool) (A : BothGiven m inout (get_or left (p + c) 0) (get_or right (q + c) 0) a c b) where
       test : (swaps : ℕ → Bool) (l r : Final) → Sides swaps left right m inout p q a size l r → b ≡ agree swaps l r a c

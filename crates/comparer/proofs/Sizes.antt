@@ -1,15 +1,15 @@
 -- What the functions over the header's words answer, and that their sums are the bases of the tables.
 use mathlib.Core.Path.{◌≡◌, refl, sym, ap, ap₂, ◌∙◌, subst}
 use mathlib.Core.Logic.{⊎_elim}
-use mathlib.Core.Bool.{Bool, true, false, ◌&&◌, ◌||◌, and-false, or-true}
+use mathlib.Core.Bool.{Bool, true, false, ◌&&◌, ◌||◌, and-false, and-true}
 use mathlib.Core.List.{List, [], ◌∷◌}
-use Prim.Native.Nat.{ℕ, zero, suc, ◌+◌, ◌-◌, ◌*◌, ◌/◌, ◌%◌, ◌^◌, ◌≤◌, ◌<◌}
+use Prim.Native.Nat.{ℕ, zero, suc, ◌+◌, ◌*◌, ◌/◌, ◌%◌, ◌^◌, ◌≤◌, ◌<◌}
 use native.Mathlib.Nat.{eq-or-lt_of_le, mul-one, mul_assoc}
 use native.Mathlib.Omega.{arith}
 use lib.ListN.{length, get_or, set, replicate, length-set}
 use lib.Seq.{get_or-set_same, get_or-set_other}
-use lib.Dec.{eqb, ltb, leb}
-use borrow.Author.Tests.{eq-eqb, ne_eqb, le-leb, lt-leb, leb-true, leb-false}
+use lib.Dec.{eqb, ltb}
+use borrow.Author.Tests.{eq-eqb, ne_eqb, le-leb, lt-leb}
 use Rattle.model.specs.Test.{within, every}
 use Rattle.model.specs.Tables.{Tables, cells, array_at, starts}
 use Rattle.unroller.specs.Allowed.{allowed_array}
@@ -21,36 +21,15 @@ use Rattle.comparer.specs.Work.{Table}
 use Rattle.comparer.proofs.SameTables.{compared-starts}
 use Rattle.comparer.specs.Comparing.{record_at, role_at, compared_at, extent_or_one, size_at, Sums}
 
--- ---- fits
-module _ (from size room : ℕ) where
-  pub fits_not : room < size → false ≡ leb (from + size) room
-  fits_not h = sym (lt-leb (from + size) room (omega arith))
-
-  pub fits_by : size ≤ room → leb from (room - size) ≡ leb (from + size) room
-  fits_by h = go (leb from (room - size)) refl
-    where
-      go : (b : Bool) → leb from (room - size) ≡ b → leb from (room - size) ≡ leb (from + size) room
-      go true e = e ∙ sym (le-leb (from + size) room (omega (arith, leb-true from (room - size) e)))
-      go false e = e ∙ sym (lt-leb (from + size) room (omega (arith, leb-false from (room - size) e)))
-
 -- ---- is_compared
 module _ (list : List ℕ) (mask a : ℕ) where
-  pub compared_off : (mask / 2 ^ a % 2 ≡ 1 → ⊥) → false ≡ compared_at list mask a
+  pub compared_off : (b : Bool) → (mask / 2 ^ a % 2 ≡ 1 → ⊥) → b ≡ false → b ≡ compared_at list mask a
   unfolding compared_at
-  compared_off h = rw (ne_eqb (mask / 2 ^ a % 2) 1 h) (sym (and-false (eqb (role_at list a) 1 || eqb (role_at list a) 2)))
+  compared_off b h e = rw (e, ne_eqb (mask / 2 ^ a % 2) 1 h) (sym (and-false (eqb (role_at list a) 1 || eqb (role_at list a) 2)))
 
-  module _ (role : ℕ) (e : role ≡ role_at list a) (h : mask / 2 ^ a % 2 ≡ 1) where
-    pub compared_out : role ≡ 1 → true ≡ compared_at list mask a
-    unfolding compared_at
-    compared_out o = rw (sym e, eq-eqb (mask / 2 ^ a % 2) 1 h, eq-eqb role 1 o)
-
-    pub compared_inout : role ≡ 2 → true ≡ compared_at list mask a
-    unfolding compared_at
-    compared_inout o = rw (sym e, eq-eqb (mask / 2 ^ a % 2) 1 h, eq-eqb role 2 o) (sym (ap (λ (b : Bool). b && true) (or-true (eqb role 1))))
-
-    pub compared-not : (role ≡ 1 → ⊥) → (role ≡ 2 → ⊥) → false ≡ compared_at list mask a
-    unfolding compared_at
-    compared-not o p = rw (sym e, eq-eqb (mask / 2 ^ a % 2) 1 h, ne_eqb role 1 o, ne_eqb role 2 p)
+  pub compared_on : mask / 2 ^ a % 2 ≡ 1 → (role : ℕ) → role ≡ role_at list a → (b : Bool) → b ≡ (eqb role 1 || eqb role 2) → b ≡ compared_at list mask a
+  unfolding compared_at
+  compared_on h role e b f = rw (sym e, eq-eqb (mask / 2 ^ a % 2) 1 h) (f ∙ sym (and-true (eqb role 1 || eqb role 2)))
 
 -- ---- extent-or-one and size_of
 module _ (used : Bool) (x : ℕ) where

@@ -7,7 +7,6 @@ ghost use Rattle.model.specs.Memory.{header_words};
 
 use crate::evaluate::apply_updates;
 use crate::reply::{Reply, Side};
-use model::numbers::wide;
 use model::sizes::{CELL_WORDS, HEADER_WORDS, MOST_CELLS, MOST_TERMS};
 use terms::Start;
 
@@ -23,18 +22,9 @@ fn is_compared(list: &[u32], mask: u16, array: usize) -> bool
     requires { (header_words ≤ length list.now) × (array < 16) }
     ensures { result ≡ compared_at list.now mask array }
 {
-    let bits = mask as usize >> array;
-    if bits % 2 != 1 {
-        return false;
-    }
+    let bits = mask >> array;
     let role = role_of(list, array);
-    if role == 1 {
-        return true;
-    }
-    if role != 2 {
-        return false;
-    }
-    true
+    bits % 2 == 1 && (role == 1 || role == 2)
 }
 
 // What a word of a header adds to an array's size. No allowed extent is above 1,024, so products stay small.
@@ -42,12 +32,12 @@ fn extent_or_one(used: bool, extent: u32) -> usize
     ensures { (result ≡ extent_or_one used extent) × (result ≤ 1024) }
 {
     if !used {
-        return 1;
+        1
+    } else if extent > 1024 {
+        0
+    } else {
+        extent as usize
     }
-    if extent > 1024 {
-        return 0;
-    }
-    wide(extent)
 }
 
 fn size_of(list: &[u32], array: usize) -> usize
@@ -67,11 +57,9 @@ fn bases_of(list: &[u32]) -> [usize; 17]
     requires { header_words ≤ length list.now }
     ensures { Sums list.now result }
 {
-    let mut bases: [usize; 17] = [0; 17];
-    let mut a: usize = 0;
-    while a < 16 {
+    let mut bases = [0; 17];
+    for a in 0..16 {
         bases[a + 1] = bases[a] + size_of(list, a);
-        a += 1;
     }
     bases
 }
@@ -79,13 +67,8 @@ fn bases_of(list: &[u32]) -> [usize; 17]
 fn starts(terms: &[u32], id: u32, a: u32, c: u32) -> bool
     ensures { Starts terms.now id a c result }
 {
-    let start = terms::is_start(terms, id, a, c);
-    match start {
-        Start::Yes => true,
-        Start::No => false,
-        // 25 is asked before; what it refuses must not pass for equal.
-        Start::Short => false,
-    }
+    // 25 is asked before; what it refuses must not pass for equal.
+    matches!(terms::is_start(terms, id, a, c), Start::Yes)
 }
 
 // Whether cell c of array a has the same term on both sides. A cell that is not written is its own starting cell, which is not stored for that.
@@ -98,10 +81,7 @@ fn agrees(terms: &[u32], x: u32, y: u32, a: u32, c: u32) -> bool
     if x == 0 {
         return starts(terms, y, a, c);
     }
-    if y == 0 {
-        return starts(terms, x, a, c);
-    }
-    false
+    y == 0 && starts(terms, x, a, c)
 }
 
 // Whether a compared element has the same value on both sides. An inout array starts alike on both. Of an out array each side has contents
@@ -112,19 +92,13 @@ fn same_value(terms: &[u32], role: u32, left: u32, right: u32, a: u32, c: u32) -
     if role == 2 {
         return agrees(terms, left, right, a, c);
     }
-    if left == 0 {
-        return false;
-    }
-    left == right
+    left != 0 && left == right
 }
 
 fn fits(from: usize, size: usize, room: usize) -> bool
     ensures { result ≡ leb (from + size) room }
 {
-    if room < size {
-        return false;
-    }
-    from <= room - size
+    size <= room && from <= room - size
 }
 
 // The first cell of an array at which the sides differ, or its size. The array's cells begin at p on the left and at q on the right.
@@ -141,22 +115,17 @@ fn first_cell(
     requires { (array < 16) × (size ≤ 1073741824) }
     ensures { FirstCell left.now right.now terms.now (eqb role 2) p q array size 0 result }
 {
-    if !fits(p, size, left.len()) {
+    if !fits(p, size, left.len()) || !fits(q, size, right.len()) {
         return 0;
     }
-    if !fits(q, size, right.len()) {
-        return 0;
-    }
-    let mut c: usize = 0;
-    while c < size {
+    for c in 0..size {
         let x = left[p + c];
         let y = right[q + c];
         if !same_value(terms, role, x, y, array as u32, c as u32) {
             return c;
         }
-        c += 1;
     }
-    c
+    size
 }
 
 // The first difference by array number, then cell number, or the number of elements compared.
@@ -172,14 +141,13 @@ fn first_array(
     requires { header_words ≤ length list.now }
     ensures { FirstArray list.now mask lefts.now rights.now left.now right.now terms.now 0 0 result }
 {
-    let count = wide(list[17]);
+    let count = list[17] as usize;
     // No list that was checked or unrolled; it must not pass for equal.
     if count > 16 {
         return Reply::Refused(Side::Left, 26, 0);
     }
-    let mut a: usize = 0;
     let mut sum: usize = 0;
-    while a < count {
+    for a in 0..count {
         if is_compared(list, mask, a) {
             let size = size_of(list, a);
             let role = role_of(list, a);
@@ -189,7 +157,6 @@ fn first_array(
             }
             sum += size;
         }
-        a += 1;
     }
     Reply::Equal(sum)
 }
@@ -205,13 +172,7 @@ pub(crate) fn match_lists(
     ensures { Matches left.now right.now mask cells.old terms.old result }
 {
     // 25 is asked before; what it refuses must not pass for equal.
-    if left.len() < HEADER_WORDS {
-        return Reply::Refused(Side::Both, 25, 0);
-    }
-    if right.len() < HEADER_WORDS {
-        return Reply::Refused(Side::Both, 25, 0);
-    }
-    if cells.len() < CELL_WORDS {
+    if left.len() < HEADER_WORDS || right.len() < HEADER_WORDS || cells.len() < CELL_WORDS {
         return Reply::Refused(Side::Both, 25, 0);
     }
     let lefts = bases_of(left);

@@ -1,3 +1,4 @@
+use borrow.Author.Tests.{ne_eqb}
 use Rattle.comparer.proofs.Agreeing.{agrees_same, agrees_left, agrees_right, agrees_apart}
 use Rattle.comparer.proofs.compare.agrees.Goals as goal
 
@@ -10,5 +11,5 @@ returns-then-x-eq0 c = agrees_left _ _ _ _ _ c.if-x-y.false c.if-x-eq0.true _ c.
 pub returns-then-y-eq0 : goal.returns-then-y-eq0
 returns-then-y-eq0 c = agrees_right _ _ _ _ _ c.if-x-eq0.false c.if-y-eq0.true _ c.starts-then-y-eq0.ensures
 
-pub returns : goal.returns
-returns c = agrees_apart _ _ _ _ _ c.if-x-y.false c.if-x-eq0.false c.if-y-eq0.false
+pub returns-else-y-eq0 : goal.returns-else-y-eq0
+returns-else-y-eq0 c = agrees_apart _ _ _ _ _ c.if-x-y.false c.if-x-eq0.false c.if-y-eq0.false _ (ne_eqb _ _ c.if-y-eq0.false)
