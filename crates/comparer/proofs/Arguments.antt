@@ -221,14 +221,6 @@ module _ (byte : ℕ) (m : List ℕ) (o at count : ℕ) (ids : List ℕ) where
     operates-plain y P = operates_put ids (sorted-plain (swaps byte) ids y) P
 
 -- ---- four ids, each picked anew
-four-whole : (ids : List ℕ) → length ids ≡ 4 → get_or ids 0 0 ∷ get_or ids 1 0 ∷ get_or ids 2 0 ∷ get_or ids 3 0 ∷ [] ≡ ids
-four-whole [] e = absurd (omega arith)
-four-whole (x ∷ []) e = absurd (omega arith)
-four-whole (x ∷ y ∷ []) e = absurd (omega arith)
-four-whole (x ∷ y ∷ z ∷ []) e = absurd (omega arith)
-four-whole (x ∷ y ∷ z ∷ w ∷ []) e = refl
-four-whole (x ∷ y ∷ z ∷ w ∷ v ∷ l) e = absurd (omega arith)
-
 pub four_picked : (x y z w k id p q r s : ℕ) → Picks (eqb k 0) id x p → Picks (eqb k 1) id y q → Picks (eqb k 2) id z r → Picks (eqb k 3) id w s
     → p ∷ q ∷ r ∷ s ∷ [] ≡ set (x ∷ y ∷ z ∷ w ∷ []) k id
 four_picked x y z w zero id p q r s a b c d = rw (a.0 refl, b.1 refl, c.1 refl, d.1 refl)
@@ -292,10 +284,3 @@ module _ (table list : List ℕ) (left at : ℕ) (cells m : List ℕ) (count k n
     unfolding WorksAll
     all_picked g i ids1 e at' count' ids' cells' m' A ops bases us to ts h O T c y z R =
         all_step g i at' count' ids' cells' m' (subst (λ (l : List ℕ). WorksAll table list left at1 cells1 m1 count1 (k + 1) n l at' count' ids' cells' m') (e y) A) ops bases us to ts h O T c y z R
-
-  -- the ids one by one
-  pub all_four : (at' count' : ℕ) (ids' cells' m' : List ℕ) → WorksAll table list left at cells m count k n (get_or ids 0 0 ∷ get_or ids 1 0 ∷ get_or ids 2 0 ∷ get_or ids 3 0 ∷ []) at' count' ids' cells' m'
-      → WorksAll table list left at cells m count k n ids at' count' ids' cells' m'
-  unfolding WorksAll
-  all_four at' count' ids' cells' m' A ops bases us to ts h O T c y z R =
-      subst (λ (l : List ℕ). WorksAll table list left at cells m count k n l at' count' ids' cells' m') (four-whole ids y) A ops bases us to ts h O T c y z R

@@ -1,10 +1,9 @@
 // Works out the updates of a list: each value as a term of the store.
-ghost use Rattle.std.specs.Prelude.{◌≡◌, ◌+◌, ◌≤◌, ◌<◌, length, true};
+ghost use Rattle.std.specs.Prelude.{◌≡◌, ◌+◌, ◌≤◌, ◌<◌, length, replicate, true};
 ghost use Rattle.model.specs.Memory.{header_words};
 ghost use Rattle.terms.specs.Stored.{sorted, Puts};
 ghost use Rattle.comparer.specs.Work.{Finds, Picks, Byte, Arity, Reads, Operates, Works, WorksLeaf, WorksAll, Applies};
 
-use model::numbers::wide;
 use model::operator::swaps;
 use model::sizes::{CELL_WORDS, HEADER_WORDS, MOST_TERMS};
 use terms::Kept;
@@ -39,7 +38,7 @@ fn no_room() -> Step
 fn slot(bases: &[usize; 17], array: u32, cell: u32) -> usize
     ensures { Finds bases.now array cell result }
 {
-    let a = wide(array);
+    let a = array as usize;
     if a >= 17 {
         return CELL_WORDS;
     }
@@ -47,7 +46,7 @@ fn slot(bases: &[usize; 17], array: u32, cell: u32) -> usize
     if base > CELL_WORDS {
         return CELL_WORDS;
     }
-    base + wide(cell)
+    base + cell as usize
 }
 
 // What the cell holds now. One that is not written yet is its starting cell, whose id it holds from then on.
@@ -67,10 +66,7 @@ fn read(
     }
     let id = cells[k];
     if id != 0 {
-        return Kept {
-            count: count,
-            id: id,
-        };
+        return Kept { count, id };
     }
     let p = terms::put(terms, count, 16, array, [cell, 0, 0, 0]);
     cells[k] = p.id;
@@ -112,11 +108,11 @@ fn byte_of(list: &[u32], operator: u32) -> usize
     requires { header_words ≤ length list.now }
     ensures { Byte list.now operator result }
 {
-    let o = wide(operator);
+    let o = operator as usize;
     if o >= 16 {
         return 0;
     }
-    wide(list[1 + o])
+    list[1 + o] as usize
 }
 
 // The arity of an operator of this byte, 0 where that is no operator's. A byte without a mark passes one test: asking for the mark
@@ -125,12 +121,12 @@ fn arity(byte: usize) -> usize
     ensures { Arity byte result }
 {
     if byte <= 4 {
-        return byte;
+        byte
+    } else if swaps(byte) {
+        2
+    } else {
+        0
     }
-    if swaps(byte) {
-        return 2;
-    }
-    0
 }
 
 // The ids as they are stored where the arguments may swap: the smaller of the two first.
@@ -201,23 +197,12 @@ fn node(
     let o = list[at + 1];
     let byte = byte_of(list, o);
     let n = arity(byte);
-    let row = args(
-        list,
-        at + 3,
-        bases,
-        cells,
-        terms,
-        count,
-        left - 1,
-        0,
-        n,
-        [0; 4],
-    );
+    let row = args(list, at + 3, bases, cells, terms, count, left - 1, n);
     operate(terms, o, byte, row)
 }
 
-// The arguments from number k on, of n; `ids` has those before. They are kept as four numbers: the processor waits for an array that
-// is filled a word at a time and loaded whole.
+// The n arguments at `at`. Their ids are kept as four numbers: the processor waits for an array that is filled a word at a time and
+// loaded whole.
 #[cycle(args_node)]
 fn args(
     list: &[u32],
@@ -227,21 +212,18 @@ fn args(
     terms: &mut [u32],
     count: u32,
     left: usize,
-    k: usize,
     n: usize,
-    ids: [u32; 4],
 ) -> Row
     requires { (header_words ≤ length list.now) × (n ≤ 4) }
-    ensures { WorksAll bases.now list.now left at cells.old terms.old count k n ids result.at result.count result.ids cells.new terms.new }
+    ensures { WorksAll bases.now list.now left at cells.old terms.old count 0 n (replicate 4 0) result.at result.count result.ids cells.new terms.new }
 {
     let mut at = at;
     let mut count = count;
-    let mut k = k;
-    let mut a0 = ids[0];
-    let mut a1 = ids[1];
-    let mut a2 = ids[2];
-    let mut a3 = ids[3];
-    while k < n {
+    let mut a0: u32 = 0;
+    let mut a1: u32 = 0;
+    let mut a2: u32 = 0;
+    let mut a3: u32 = 0;
+    for k in 0..n {
         let s = node(list, at, bases, cells, terms, count, left);
         count = s.count;
         if count > MOST_TERMS {
@@ -256,7 +238,6 @@ fn args(
         a2 = pick(k == 2, s.id, a2);
         a3 = pick(k == 3, s.id, a3);
         at = s.at;
-        k += 1;
     }
     Row {
         at,

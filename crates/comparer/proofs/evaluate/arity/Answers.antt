@@ -9,5 +9,5 @@ returns-then-byte-le4 c = let h = c.if-byte-le4.true in arity_few _ (omega arith
 pub returns-then-swaps : goal.returns-then-swaps
 returns-then-swaps c = arity_two _ _ (omega arith) (sym c.swaps.ensures ∙ c.if-swaps.true)
 
-pub returns : goal.returns
-returns c = let h = c.if-byte-le4.false in arity_many _ (omega arith) (sym c.swaps.ensures ∙ c.if-swaps.false)
+pub returns-else-swaps : goal.returns-else-swaps
+returns-else-swaps c = let h = c.if-byte-le4.false in arity_many _ (omega arith) (sym c.swaps.ensures ∙ c.if-swaps.false)
