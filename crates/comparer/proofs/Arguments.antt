@@ -8,8 +8,8 @@ use native.Mathlib.Numerals.{add-one}
 use native.Mathlib.Omega.{arith}
 use lib.ListN.{length, get_or, set, replicate, length-set, get_or-eq_default, get_or-replicate}
 use lib.Seq.{get_or-set_same, get_or-set_other}
-use lib.Dec.{ltb, leb, eqb}
-use borrow.Author.Tests.{ltb-true, ltb-false, leb-true, leb-false, ne_eqb}
+use lib.Dec.{ltb, eqb}
+use borrow.Author.Tests.{ltb-true, ltb-false, ne_eqb}
 use Rattle.model.specs.Tables.{swaps, arity_of, arity_at, swaps_at}
 use Rattle.model.proofs.Operators.{swaps_two}
 use Rattle.model.specs.Update.{Tree, Trees}
@@ -18,11 +18,11 @@ use Rattle.model.specs.Update.Trees.{nil, cons}
 use Rattle.terms.specs.Term.{alike, parts, parts_of}
 use Rattle.terms.specs.Stored.{In, Ref, Args, Means, Outcome, full, fine, sorted, Puts}
 use Rattle.terms.specs.Store.{node_of}
-use Rattle.terms.proofs.Sorted.{Two, sorted-means, sorted-plain}
+use Rattle.terms.proofs.Sorted.{Two, sorted-means}
 use Rattle.terms.proofs.Sets.{in_none, in_head, in_tail, in_cons, in_one, in_left, in_right, in_either, grown_none, grown_ref, over_more, after_grown, same_set, is_full, is_fine}
 use Rattle.unroller.specs.Stands.{many, TreeAt, TreesAt}
 use Rattle.comparer.specs.Meaning.{Content, value_of, values_of, free}
-use Rattle.comparer.specs.Work.{Operators, Picks, Byte, Arity, Operates, Holding, Ready, worked, Works, WorksAll}
+use Rattle.comparer.specs.Work.{Operators, Picks, Byte, Arity, Holding, Ready, worked, Works, WorksAll}
 use Rattle.comparer.proofs.Slots.{cells-on, outcome_on}
 
 -- ---- places
@@ -160,7 +160,7 @@ module _ (table list : List ℕ) (left at : ℕ) (cells m : List ℕ) (count : �
           A ops bases us to ts h O (subst (λ (x : ℕ). TreesAt ops bases list us x (at + 3) to) (sym d) T.4.2) (omega arith)
           refl (λ j i. none4-zero j) R
 
-      node-full : 4096 < count1 → (at' count' id : ℕ) (cells' m' : List ℕ) → 4096 < count' → Works table list left at cells m count at' count' id cells' m'
+      pub node-full : 4096 < count1 → (at' count' id : ℕ) (cells' m' : List ℕ) → 4096 < count' → Works table list left at cells m count at' count' id cells' m'
       node-full l at' count' id cells' m' g =
           by_operator at' count' id cells' m'
           (λ ops bases o us to ts h O T R.
@@ -178,7 +178,7 @@ module _ (table list : List ℕ) (left at : ℕ) (cells m : List ℕ) (count : �
           (sorted-means (swaps_at ops) ts o ids1 (worked us h) (λ e. two_trees (worked us h) (many-worked us h ∙ sym T.2 ∙ marked_two ops o e))
           (args-four (swaps_at ops) ts ids1 (worked us h) 0 (omega (arith, many-worked us h, T.3)) A))
 
-      node_put : count1 ≤ 4096 → (count' id : ℕ) (m' : List ℕ) → Puts m1 count1 17 (get_or list (at + 1) 0) (sorted (swaps byte) ids1) count' id m'
+      pub node_put : count1 ≤ 4096 → (count' id : ℕ) (m' : List ℕ) → Puts m1 count1 17 (get_or list (at + 1) 0) (sorted (swaps byte) ids1) count' id m'
           → Works table list left at cells m count at1 count' id cells1 m'
       unfolding Puts TreeAt
       node_put l count' id m' P =
@@ -193,32 +193,6 @@ module _ (table list : List ℕ) (left at : ℕ) (cells m : List ℕ) (count : �
           (outcome_on (swaps_at ops) F.0 (v ∷ []) m' count' (λ us. Ref (swaps_at ops) us id v) Q
           (λ us g s. (F.3.0, s, (F.3.3.0, cells-on (swaps_at ops) bases cells1 F.0 (v ∷ []) us h g F.3.3.1)))
           (P (swaps_at ops) F.0 v F.1 (node-means ops bases o us to h O T F.0 F.3.2)))))
-
-      pub node_done : (at' count' id : ℕ) (m' : List ℕ) → Operates byte m1 (get_or list (at + 1) 0) at1 count1 ids1 at' count' id m'
-          → Works table list left at cells m count at' count' id cells1 m'
-      node_done at' count' id m' D = go (leb count1 4096) refl
-        where
-          go : (b : Bool) → leb count1 4096 ≡ b → Works table list left at cells m count at' count' id cells1 m'
-          go true b =
-              let l = leb-true count1 4096 b in
-              let P = D.puts l in
-              subst (λ (x : ℕ). Works table list left at cells m count x count' id cells1 m') (sym P.0) (node_put l count' id m' P.1)
-          go false b = let l = leb-false count1 4096 b in node-full l at' count' id cells1 m' (D.full l)
-
--- ---- operate
-module _ (byte : ℕ) (m : List ℕ) (o at count : ℕ) (ids : List ℕ) where
-  pub operates-full : 4096 < count → (at' count' id : ℕ) → 4096 < count' → Operates byte m o at count ids at' count' id m
-  operates-full l at' count' id g = record { puts = λ h. absurd (omega arith); full = λ h. g }
-
-  module _ (l : count ≤ 4096) (at' count' id : ℕ) (m' : List ℕ) (e : at' ≡ at) where
-    operates_put : (stored : List ℕ) → stored ≡ sorted (swaps byte) ids → Puts m count 17 o stored count' id m' → Operates byte m o at count ids at' count' id m'
-    operates_put stored f P = record { puts = λ h. (e, subst (λ (x : List ℕ). Puts m count 17 o x count' id m') f P); full = λ h. absurd (omega arith) }
-
-    pub operates-sorted : swaps byte ≡ true → (stored : List ℕ) → stored ≡ sorted true ids → Puts m count 17 o stored count' id m' → Operates byte m o at count ids at' count' id m'
-    operates-sorted y stored f P = operates_put stored (f ∙ ap (λ (b : Bool). sorted b ids) (sym y)) P
-
-    pub operates-plain : swaps byte ≡ false → Puts m count 17 o ids count' id m' → Operates byte m o at count ids at' count' id m'
-    operates-plain y P = operates_put ids (sorted-plain (swaps byte) ids y) P
 
 -- ---- four ids, each picked anew
 pub four_picked : (x y z w k id p q r s : ℕ) → Picks (eqb k 0) id x p → Picks (eqb k 1) id y q → Picks (eqb k 2) id z r → Picks (eqb k 3) id w s

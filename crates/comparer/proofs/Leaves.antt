@@ -1,9 +1,10 @@
 -- What `read` and `leaf` answer.
 use mathlib.Core.Path.{◌≡◌, refl, sym, ap₂, subst, subst₂}
+use Rattle.std.specs.Prelude.{Option, None, Some}
 use mathlib.Core.Logic.{⊎_elim}
 use mathlib.Core.Bool.{Bool}
 use mathlib.Core.List.{List, [], ◌∷◌}
-use Prim.Native.Nat.{ℕ, ◌+◌, ◌≤◌}
+use Prim.Native.Nat.{ℕ, ◌+◌, ◌≤◌, ◌<◌}
 use native.Mathlib.Omega.{arith}
 use lib.ListN.{length, get_or, set, replicate}
 use Rattle.model.specs.Tables.{swaps_at}
@@ -11,24 +12,29 @@ use Rattle.model.specs.Update.{Tree}
 use Rattle.model.specs.Update.Tree.{cell, number, constant, operator}
 use Rattle.terms.specs.Term.{parts}
 use Rattle.terms.specs.Store.{node_of}
-use Rattle.terms.specs.Stored.{Ref, Means, Outcome, fine, Puts}
-use Rattle.terms.proofs.Sets.{closed, grown_none, ref_in}
+use Rattle.terms.specs.Stored.{Ref, Means, Over, Outcome, full, fine, Puts}
+use Rattle.terms.proofs.Sets.{closed, grown_none, ref_in, is_full}
 use Rattle.unroller.specs.Stands.{Proper, TreeAt}
-use Rattle.comparer.specs.Meaning.{Content, value_of}
-use Rattle.comparer.specs.Work.{Finds, Shows, Holding, Ready, Reads, Works, WorksLeaf}
-use Rattle.comparer.proofs.Slots.{slot_in, slot_is, cells-on, holding_set, outcome_on}
+use Rattle.terms.specs.declared.Kept.{Kept}
+use Rattle.comparer.specs.Meaning.{Content, value_of, free}
+use Rattle.comparer.specs.Work.{Keeps, Finds, Shows, Holding, Ready, Reads, Works, WorksLeaf}
+use Rattle.comparer.proofs.Slots.{slot_in, slot_is, slot_none, cells-on, holding_set, outcome_on}
 
-module _ (table cells m : List ℕ) (count a c k : ℕ) (f : Finds table a c k) where
+pub read_none : (table cells m : List ℕ) (count a c : ℕ) → Finds table a c None → (count' id : ℕ) (cells' m' : List ℕ) → Reads table cells m count a c count' id cells' m'
+unfolding Reads
+read_none table cells m count a c f count' id cells' m' swaps bases ts h R p = absurd (slot_none table bases (length cells) R.slots a c p f)
+
+module _ (table cells m : List ℕ) (count a c k : ℕ) (f : Finds table a c (Some k)) where
   pub read_out : length cells ≤ k → (count' id : ℕ) (cells' m' : List ℕ) → Reads table cells m count a c count' id cells' m'
   unfolding Reads
   read_out l count' id cells' m' swaps bases ts h R p =
-      absurd (omega (arith, slot_in table bases (length cells) R.slots a c p, slot_is table bases (length cells) R.slots a c k f p))
+      absurd (omega (arith, slot_in table bases (length cells) R.slots a c p, slot_is table bases (length cells) R.slots a c p k f))
 
   -- what the cell shows
   showing : (swaps : ℕ → Bool) (bases : List ℕ) (ts : List Tree) (h : Content Tree) → Ready swaps table bases cells m count ts h → Proper bases a c
       → Shows swaps ts (get_or cells k 0) (cell a c) (h a c)
   showing swaps bases ts h R p =
-      subst (λ (i : ℕ). Shows swaps ts (get_or cells i 0) (cell a c) (h a c)) (sym (slot_is table bases (length cells) R.slots a c k f p)) (R.holds a c p)
+      subst (λ (i : ℕ). Shows swaps ts (get_or cells i 0) (cell a c) (h a c)) (sym (slot_is table bases (length cells) R.slots a c p k f)) (R.holds a c p)
 
   pub read-written : (get_or cells k 0 ≡ 0 → ⊥) → Reads table cells m count a c count (get_or cells k 0) cells m
   unfolding Reads
@@ -47,11 +53,21 @@ module _ (table cells m : List ℕ) (count a c k : ℕ) (f : Finds table a c k) 
       outcome_on swaps ts (parts (h a c)) m' count' (λ us. Ref swaps us id (h a c)) (λ us. Ref swaps us id (h a c) × Holding swaps table bases (set cells k id) us h)
       (λ us g r. (
         r,
-        holding_set swaps table bases cells a c k id us h R.slots p (slot_is table bases (length cells) R.slots a c k f p) r (cells-on swaps bases cells ts (parts (h a c)) us h g R.holds),
+        holding_set swaps table bases cells a c k id us h R.slots p (slot_is table bases (length cells) R.slots a c p k f) r (cells-on swaps bases cells ts (parts (h a c)) us h g R.holds),
       ))
       (subst (λ (t : Tree). Outcome swaps ts (parts t) m' count' (λ us. Ref swaps us id t)) (sym e.1) (P swaps ts (cell a c) R.stored refl)))
       (λ (r : Ref swaps ts (get_or cells k 0) (h a c)). absurd (omega (arith, r.some)))
       (showing swaps bases ts h R p)
+
+  -- no room for the starting cell
+  pub read_full : get_or cells k 0 ≡ 0 → (count' id : ℕ) (m' : List ℕ) → 4096 < count' → Puts m count 16 a (c ∷ 0 ∷ 0 ∷ 0 ∷ []) count' id m' → Reads table cells m count a c count' id cells m'
+  unfolding Reads Puts Means parts
+  read_full w count' id m' g P swaps bases ts h R p =
+      full g
+      (⊎_elim (λ (e : (get_or cells k 0 ≡ 0) × (h a c ≡ cell a c)).
+      subst (λ (t : Tree). Over swaps ts (parts t)) (sym e.1) (is_full swaps m' count' (λ us. Ref swaps us id (cell a c)) ts (parts (cell a c)) g (P swaps ts (cell a c) R.stored refl)))
+      (λ (r : Ref swaps ts (get_or cells k 0) (h a c)). absurd (omega (arith, r.some)))
+      (showing swaps bases ts h R p))
 
 module _ (table list : List ℕ) (at : ℕ) (cells m : List ℕ) (count count' id : ℕ) (m' : List ℕ) where
   pub leaf_read : get_or list at 0 ≡ 16 → (cells' : List ℕ) → Reads table cells m count (get_or list (at + 1) 0) (get_or list (at + 2) 0) count' id cells' m'
@@ -85,3 +101,25 @@ pub node_leaf : (table list : List ℕ) (left at : ℕ) (cells m : List ℕ) (co
     → WorksLeaf table list at cells m count at' count' id cells' m' → Works table list left at cells m count at' count' id cells' m'
 unfolding WorksLeaf
 node_leaf table list left at cells m count at' count' id cells' m' w W = W left w
+
+-- where there is no room, place and id don't matter
+pub works_over : (table list : List ℕ) (left at : ℕ) (cells m : List ℕ) (count at' count' id at1 id1 : ℕ) (cells' cells1 m' : List ℕ) → 4096 < count'
+    → Works table list left at cells m count at' count' id cells' m' → Works table list left at cells m count at1 count' id1 cells1 m'
+unfolding Works
+works_over table list left at cells m count at' count' id at1 id1 cells' cells1 m' l W ops bases t to ts h O T R =
+    full l (is_full (swaps_at ops) m' count' (λ us. (at' ≡ to) × Ref (swaps_at ops) us id (value_of free t h) × Holding (swaps_at ops) table bases cells' us h) ts (parts (value_of free t h)) l (W ops bases t to ts h O T R))
+
+-- ---- what `put` answers
+pub kept_none : (m : List ℕ) (count kind payload : ℕ) (ids : List ℕ) (r : Kept) (m' : List ℕ) → 4096 < r.count → Puts m count kind payload ids r.count r.id m'
+    → Puts m count kind payload ids 4097 0 m'
+unfolding Puts
+kept_none m count kind payload ids r m' l P swaps ts t S M = full (omega arith) (is_full swaps m' r.count (λ us. Ref swaps us r.id t) ts (t ∷ []) l (P swaps ts t S M))
+
+pub kept_as : (m : List ℕ) (count kind payload : ℕ) (ids stored : List ℕ) (m' : List ℕ) (r : Option Kept) → stored ≡ ids → Keeps (λ count' id. Puts m count kind payload stored count' id m') r
+    → Keeps (λ count' id. Puts m count kind payload ids count' id m') r
+kept_as m count kind payload ids stored m' r e k = subst (λ (l : List ℕ). Keeps (λ count' id. Puts m count kind payload l count' id m') r) e k
+
+pub kept_by : {P Q : ℕ → ℕ → Type 0} (r : Option Kept) → ((count id : ℕ) → P count id → Q count id) → Keeps P r → Keeps Q r
+unfolding Keeps
+kept_by None f k = f 4097 0 k
+kept_by (Some x) f k = (k.0, f x.count x.id k.1)

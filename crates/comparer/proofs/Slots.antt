@@ -1,6 +1,7 @@
 -- Cells and their slots; what holds goes on holding as the store grows.
 use mathlib.Core.Path.{◌≡◌, refl, sym, ap, ◌∙◌, subst, subst₂}
-use mathlib.Core.Logic.{inl, inr, ⊎_elim}
+use Rattle.std.specs.Prelude.{Option, None, Some}
+use mathlib.Core.Logic.{◌⊎◌, inl, inr, ⊎_elim}
 use mathlib.Core.Bool.{Bool, true, false}
 use mathlib.Core.List.{List}
 use Prim.Native.Nat.{ℕ, ◌+◌, ◌≤◌, ◌<◌}
@@ -19,19 +20,16 @@ use Rattle.unroller.specs.Stands.{Proper}
 use Rattle.comparer.specs.Meaning.{Content}
 use Rattle.comparer.specs.Work.{Table, slot_of, Finds, Arity, Byte, Shows, CellsHold, Holding}
 
--- ---- what `slot` and `arity` answer, where k is their number as an index
-module _ (table : List ℕ) (a c k : ℕ) (e : k ≡ a) where
-  pub finds_none : 17 ≤ k → (r : ℕ) → Finds table a c r
+-- ---- what `slot` and `arity` answer
+module _ (table : List ℕ) (a c : ℕ) where
+  pub finds_none : (17 ≤ a) ⊎ (4096 < get_or table a 0) → Finds table a c None
   unfolding Finds
-  finds_none l r h i = absurd (omega arith)
+  finds_none (inl l) h i = absurd (omega arith)
+  finds_none (inr l) h i = absurd (omega arith)
 
-  pub finds_far : 4096 < get_or table k 0 → (r : ℕ) → Finds table a c r
+  pub finds_at : Finds table a c (Some (get_or table a 0 + c))
   unfolding Finds
-  finds_far l r h i = let w : get_or table k 0 ≡ get_or table a 0 = ap (λ (x : ℕ). get_or table x 0) e in absurd (omega arith)
-
-  pub finds_at : (d : ℕ) → d ≡ c → Finds table a c (get_or table k 0 + d)
-  unfolding Finds
-  finds_at d f h i = let w : get_or table k 0 ≡ get_or table a 0 = ap (λ (x : ℕ). get_or table x 0) e in omega arith
+  finds_at h i = refl
 
 module _ (list : List ℕ) (o k : ℕ) (e : k ≡ o) where
   pub byte_none : (b : ℕ) → 16 ≤ k → Byte list o b
@@ -58,12 +56,19 @@ module _ (table bases : List ℕ) (room : ℕ) (t : Table table bases room) wher
   pub slot_in : (a c : ℕ) → Proper bases a c → slot_of bases a c < room
   slot_in a c p = omega (arith, t.fits (a + 1) p.array, p.inside)
 
-  pub slot_is : (a c k : ℕ) → Finds table a c k → Proper bases a c → k ≡ slot_of bases a c
-  unfolding Finds
-  slot_is a c k f p =
-      let l : a < length bases = omega (arith, p.array) in
-      let w = t.word a l in
-      omega (arith, f (omega (arith, t.short)) (omega (arith, t.fits a l, t.few)))
+  module _ (a c : ℕ) (p : Proper bases a c) where
+    found : (r : Option ℕ) → Finds table a c r → r ≡ Some (slot_of bases a c)
+    unfolding Finds
+    found r f =
+        let l : a < length bases = omega (arith, p.array) in
+        let w = t.word a l in
+        rw w at (f (omega (arith, t.short)) (omega (arith, t.fits a l, t.few)))
+
+    pub slot_is : (k : ℕ) → Finds table a c (Some k) → k ≡ slot_of bases a c
+    slot_is k f = let e = found (Some k) f in cc
+
+    pub slot_none : Finds table a c None → ⊥
+    slot_none f = let e = found None f in let z : ◌≡◌ {A = ℕ} 0 1 = cc in omega arith
 
   -- different cells have different slots
   pub slot_apart : (a c b d : ℕ) → Proper bases a c → Proper bases b d → slot_of bases a c ≡ slot_of bases b d → (a ≡ b) × (c ≡ d)

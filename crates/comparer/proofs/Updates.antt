@@ -1,5 +1,6 @@
 -- What a round of `apply_updates` does: what finishes the rest finishes the whole.
 use mathlib.Core.Path.{◌≡◌, refl, sym, ap, ap₂, ◌∙◌, subst, subst₂}
+use Rattle.std.specs.Prelude.{None, Some}
 use mathlib.Core.Logic.{inr}
 use mathlib.Core.Bool.{Bool, true, false, ◌&&◌, cond}
 use mathlib.Core.List.{List, [], ◌∷◌, ◌++◌}
@@ -18,7 +19,7 @@ use Rattle.terms.proofs.Sets.{in_none, in_left, grown_none, over_more, after_gro
 use Rattle.unroller.specs.Stands.{Proper, Three, TreeAt, UpdatesAt}
 use Rattle.comparer.specs.Meaning.{Content, value_of, free, updated, after, values}
 use Rattle.comparer.specs.Work.{Operators, Table, slot_of, Finds, Shows, CellsHold, Ready, Works, Applies}
-use Rattle.comparer.proofs.Slots.{slot_in, slot_is, slot_apart}
+use Rattle.comparer.proofs.Slots.{slot_in, slot_is, slot_none, slot_apart}
 use Rattle.comparer.proofs.Arguments.{tree_past, Got}
 
 -- ---- a cell is written
@@ -59,6 +60,13 @@ module _ (table list : List ℕ) (at : ℕ) (cells m : List ℕ) (n : ℕ) where
   upd_end w ops bases [] ts h O T R = fine ts R.stored (grown_none (swaps_at ops) ts [] (λ x i. absurd (in_none (swaps_at ops) x i))) R.holds
   upd_end w ops bases (u ∷ us) ts h O T R = absurd (w T.0.room T.0.code)
 
+  -- no update has no slot
+  pub upd_none : at + 3 ≤ length list → get_or list at 0 ≡ 1 → Finds table (get_or list (at + 1) 0) (get_or list (at + 2) 0) None → (r : ℕ) (cells' m' : List ℕ) → Applies table list at cells m n r cells' m'
+  unfolding Applies UpdatesAt
+  upd_none room e f r cells' m' ops bases [] ts h O T R = absurd (T room e)
+  upd_none room e f r cells' m' ops bases (u ∷ us) ts h O T R =
+      absurd (slot_none table bases (length cells) R.slots u.array u.target T.1 (subst₂ (λ (x y : ℕ). Finds table x y None) T.0.one T.0.two f))
+
   module _ (room : at + 3 ≤ length list) (e : get_or list at 0 ≡ 1) (at1 count1 id1 : ℕ) (cells1 m1 : List ℕ)
       (W : Works table list 12 (at + 3) cells m n at1 count1 id1 cells1 m1) where
     -- an update stands here, and its value was worked out: it is enough to show of it what is to be shown
@@ -90,12 +98,12 @@ module _ (table list : List ℕ) (at : ℕ) (cells m : List ℕ) (n : ℕ) where
         let F = is_fine (swaps_at ops) m1 count1 (Got (swaps_at ops) table bases cells1 h at1 to id1 (value_of free u.source h)) ts (parts (value_of free u.source h)) g X in
         absurd (omega (arith, tree_past ops bases list u.source 12 (at + 3) to T, F.3.0)))
 
-    module _ (k : ℕ) (f : Finds table (get_or list (at + 1) 0) (get_or list (at + 2) 0) k) where
+    module _ (k : ℕ) (f : Finds table (get_or list (at + 1) 0) (get_or list (at + 2) 0) (Some k)) where
       -- the slot of the update that stands here
       slot_of_lem : (bases : List ℕ) (u : Update) → Table table bases (length cells) → Three list at 1 u.array u.target → Proper bases u.array u.target
           → k ≡ slot_of bases u.array u.target
       slot_of_lem bases u t w p =
-          slot_is table bases (length cells) t u.array u.target k (subst₂ (λ (x y : ℕ). Finds table x y k) w.one w.two f) p
+          slot_is table bases (length cells) t u.array u.target p k (subst₂ (λ (x y : ℕ). Finds table x y (Some k)) w.one w.two f)
 
       pub upd_wild : count1 ≤ 4096 → length cells1 ≤ k → (r : ℕ) (cells' m' : List ℕ) → Applies table list at cells m n r cells' m'
       upd_wild g l r cells' m' =

@@ -1,11 +1,14 @@
 -- Working out the updates of a list as terms of a store: what cells and store hold, and what each function does to them.
-use Rattle.std.specs.Prelude.{ℕ, ◌+◌, ◌≤◌, ◌<◌, ◌≡◌, ◌⊎◌, List, Bool, true, false, length, get_or}
-use Rattle.model.specs.Tables.{swaps, arity_of, swaps_at}
+use Rattle.std.specs.Prelude.{ℕ, ◌+◌, ◌≤◌, ◌<◌, ◌≡◌, ◌⊎◌, List, [], Option, None, Some, Bool, true, false, length, get_or}
+use Rattle.model.specs.Tables.{arity_of, swaps_at}
 use Rattle.model.specs.Update.{Tree, Trees, Update}
 use Rattle.model.specs.Update.Tree.{cell}
 use Rattle.terms.specs.Term.{parts, parts_of, parts_of_all}
-use Rattle.terms.specs.Stored.{Ref, Args, Stored, sorted, Outcome, Puts}
+use Rattle.terms.specs.declared.Kept.{Kept}
+use Rattle.terms.specs.Stored.{Ref, Args, Stored, Outcome}
 use Rattle.unroller.specs.Stands.{Proper, many, TreeAt, TreesAt, UpdatesAt}
+use Rattle.comparer.specs.declared.evaluate.Step.{Step}
+use Rattle.comparer.specs.declared.evaluate.Row.{Row}
 use Rattle.comparer.specs.Meaning.{Content, value_of, values_of, free, trees_of, after, values}
 
 -- the header's words of the operators
@@ -25,9 +28,29 @@ pub record Table (table bases : List ℕ) (room : ℕ) : Type 0 where
 abbrev pub slot_of : List ℕ → ℕ → ℕ → ℕ
 slot_of bases a c = get_or bases a 0 + c
 
--- k is the slot, if there is one
-unfoldable pub Finds : List ℕ → ℕ → ℕ → ℕ → Type 0
-Finds table a c k = a < 17 → get_or table a 0 ≤ 4096 → k ≡ get_or table a 0 + c
+-- the slot, if there is one
+unfoldable pub Finds : List ℕ → ℕ → ℕ → Option ℕ → Type 0
+Finds table a c r = a < 17 → get_or table a 0 ≤ 4096 → r ≡ Some (get_or table a 0 + c)
+
+-- ---- answers: a number of terms that have room, or none, of which is said what is said of 4,097 terms
+unfoldable pub Counts : (ℕ → Type 0) → Option ℕ → Type 0
+Counts P None = P 4097
+Counts P (Some count) = (count ≤ 4096) × P count
+
+-- with an id
+unfoldable pub Keeps : (ℕ → ℕ → Type 0) → Option Kept → Type 0
+Keeps P None = P 4097 0
+Keeps P (Some k) = (k.count ≤ 4096) × P k.count k.id
+
+-- with a place and an id
+unfoldable pub Steps : (ℕ → ℕ → ℕ → Type 0) → Option Step → Type 0
+Steps P None = P 0 4097 0
+Steps P (Some s) = (s.count ≤ 4096) × P s.at s.count s.id
+
+-- with a place and four ids
+unfoldable pub Rows : (ℕ → ℕ → List ℕ → Type 0) → Option Row → Type 0
+Rows P None = P 0 4097 []
+Rows P (Some r) = (r.count ≤ 4096) × P r.at r.count r.ids
 
 -- the one, or the other
 abbrev pub Picks : Bool → ℕ → ℕ → ℕ → Type 0
@@ -68,11 +91,6 @@ unfoldable pub Reads : List ℕ → List ℕ → List ℕ → ℕ → ℕ → �
 Reads table cells m count a c count' id cells' m' =
     (swaps : ℕ → Bool) (bases : List ℕ) (ts : List Tree) (h : Content Tree) → Ready swaps table bases cells m count ts h → Proper bases a c
     → Outcome swaps ts (parts (h a c)) m' count' (λ us. Ref swaps us id (h a c) × Holding swaps table bases cells' us h)
-
--- an operator of this byte over the arguments in ids, where there was room for these; those of one that may swap are sorted
-pub record Operates (byte : ℕ) (m : List ℕ) (o at count : ℕ) (ids : List ℕ) (at' count' id : ℕ) (m' : List ℕ) : Type 0 where
-  pub puts : count ≤ 4096 → (at' ≡ at) × Puts m count 17 o (sorted (swaps byte) ids) count' id m'
-  pub full : 4096 < count → 4096 < count'
 
 -- the tree at `at`: its value is stored, with its parts
 unfoldable pub Works : List ℕ → List ℕ → ℕ → ℕ → List ℕ → List ℕ → ℕ → ℕ → ℕ → ℕ → List ℕ → List ℕ → Type 0

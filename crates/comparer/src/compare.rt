@@ -7,7 +7,7 @@ ghost use Rattle.model.specs.Memory.{header_words};
 
 use crate::evaluate::apply_updates;
 use crate::reply::{Reply, Side};
-use model::sizes::{CELL_WORDS, HEADER_WORDS, MOST_CELLS, MOST_TERMS};
+use model::sizes::{CELL_WORDS, HEADER_WORDS, MOST_CELLS};
 use terms::Start;
 
 fn role_of(list: &[u32], array: usize) -> u32
@@ -177,14 +177,12 @@ pub(crate) fn match_lists(
     }
     let lefts = bases_of(left);
     let rights = bases_of(right);
-    let n = apply_updates(left, &lefts, &mut cells[0..MOST_CELLS], terms, 0);
-    if n > MOST_TERMS {
+    let Some(n) = apply_updates(left, &lefts, &mut cells[0..MOST_CELLS], terms, 0) else {
         return Reply::Refused(Side::Both, 24, 0);
-    }
-    let k = apply_updates(right, &rights, &mut cells[MOST_CELLS..CELL_WORDS], terms, n);
-    if k > MOST_TERMS {
+    };
+    let Some(_) = apply_updates(right, &rights, &mut cells[MOST_CELLS..CELL_WORDS], terms, n) else {
         return Reply::Refused(Side::Both, 24, 0);
-    }
+    };
     first_array(
         left,
         mask,

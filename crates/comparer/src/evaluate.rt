@@ -2,13 +2,14 @@
 ghost use Rattle.std.specs.Prelude.{◌≡◌, ◌+◌, ◌≤◌, ◌<◌, length, replicate, true};
 ghost use Rattle.model.specs.Memory.{header_words};
 ghost use Rattle.terms.specs.Stored.{sorted, Puts};
-ghost use Rattle.comparer.specs.Work.{Finds, Picks, Byte, Arity, Reads, Operates, Works, WorksLeaf, WorksAll, Applies};
+ghost use Rattle.model.specs.Tables.{swaps};
+ghost use Rattle.comparer.specs.Work.{Keeps, Steps, Rows, Counts, Finds, Picks, Byte, Arity, Reads, Works, WorksLeaf, WorksAll, Applies};
 
 use model::operator::swaps;
 use model::sizes::{CELL_WORDS, HEADER_WORDS, MOST_TERMS};
 use terms::Kept;
 
-// The place past a tree, the number of terms, and the id plus 1. A number above 4,096: there is no room.
+// The place past a tree, the number of terms, and the id plus 1.
 #[derive(Clone, Copy)]
 struct Step {
     at: usize,
@@ -24,29 +25,26 @@ struct Row {
     ids: [u32; 4],
 }
 
-fn no_room() -> Step
-    ensures { 4096 < result.count }
+// A term, stored where it is not yet and where there is room.
+fn put(terms: &mut [u32], count: u32, kind: u32, payload: u32, ids: [u32; 4]) -> Option<Kept>
+    ensures { Keeps (λ count' id. Puts terms.old count kind payload ids count' id terms.new) result }
 {
-    Step {
-        at: 0,
-        count: 4097,
-        id: 0,
+    let kept = terms::put(terms, count, kind, payload, ids);
+    if kept.count > MOST_TERMS {
+        return None;
     }
+    Some(kept)
 }
 
-// The slot of a cell: the cells before its array, and its number. Of no cell, any number.
-fn slot(bases: &[usize; 17], array: u32, cell: u32) -> usize
+// The slot of a cell: the cells before its array, and its number.
+fn slot(bases: &[usize; 17], array: u32, cell: u32) -> Option<usize>
     ensures { Finds bases.now array cell result }
 {
     let a = array as usize;
-    if a >= 17 {
-        return CELL_WORDS;
+    if a >= 17 || bases[a] > CELL_WORDS {
+        return None;
     }
-    let base = bases[a];
-    if base > CELL_WORDS {
-        return CELL_WORDS;
-    }
-    base + cell as usize
+    Some(bases[a] + cell as usize)
 }
 
 // What the cell holds now. One that is not written yet is its starting cell, whose id it holds from then on.
@@ -57,20 +55,21 @@ fn read(
     count: u32,
     array: u32,
     cell: u32,
-) -> Kept
-    ensures { Reads bases.now cells.old terms.old count array cell result.count result.id cells.new terms.new }
+) -> Option<Kept>
+    requires { count ≤ 4096 }
+    ensures { Keeps (λ count' id. Reads bases.now cells.old terms.old count array cell count' id cells.new terms.new) result }
 {
-    let k = slot(bases, array, cell);
+    let k = slot(bases, array, cell)?;
     if k >= cells.len() {
-        return Kept { count: 4097, id: 0 };
+        return None;
     }
     let id = cells[k];
     if id != 0 {
-        return Kept { count, id };
+        return Some(Kept { count, id });
     }
-    let p = terms::put(terms, count, 16, array, [cell, 0, 0, 0]);
+    let p = put(terms, count, 16, array, [cell, 0, 0, 0])?;
     cells[k] = p.id;
-    p
+    Some(p)
 }
 
 fn leaf(
@@ -80,27 +79,17 @@ fn leaf(
     cells: &mut [u32],
     terms: &mut [u32],
     count: u32,
-) -> Step
-    requires { at + 3 ≤ length list.now }
-    ensures { WorksLeaf bases.now list.now at cells.old terms.old count result.at result.count result.id cells.new terms.new }
+) -> Option<Kept>
+    requires { (at + 3 ≤ length list.now) × (count ≤ 4096) }
+    ensures { Keeps (λ count' id. WorksLeaf bases.now list.now at cells.old terms.old count (at + 3) count' id cells.new terms.new) result }
 {
     let code = list[at];
     let x = list[at + 1];
     if code == 16 {
         let c = list[at + 2];
-        let r = read(bases, cells, terms, count, x, c);
-        return Step {
-            at: at + 3,
-            count: r.count,
-            id: r.id,
-        };
+        return read(bases, cells, terms, count, x, c);
     }
-    let p = terms::put(terms, count, code, x, [0; 4]);
-    Step {
-        at: at + 3,
-        count: p.count,
-        id: p.id,
-    }
+    put(terms, count, code, x, [0; 4])
 }
 
 // The header's word for this operator, which is its byte; 0 where there is none.
@@ -145,30 +134,14 @@ fn pick(here: bool, id: u32, other: u32) -> u32
     if here { id } else { other }
 }
 
-// The operator over its arguments in this order.
-fn put_operator(terms: &mut [u32], operator: u32, at: usize, count: u32, ids: [u32; 4]) -> Step
-    ensures { (result.at ≡ at) × Puts terms.old count 17 operator ids result.count result.id terms.new }
+// The operator over its arguments. A call of its own for those that may swap: no other waits for the order.
+fn operate(terms: &mut [u32], operator: u32, byte: usize, count: u32, ids: [u32; 4]) -> Option<Kept>
+    ensures { Keeps (λ count' id. Puts terms.old count 17 operator (sorted (swaps byte) ids) count' id terms.new) result }
 {
-    let p = terms::put(terms, count, 17, operator, ids);
-    Step {
-        at,
-        count: p.count,
-        id: p.id,
-    }
-}
-
-// The operator over its arguments, where they had room. A call of its own for those that may swap: no other waits for the order.
-fn operate(terms: &mut [u32], operator: u32, byte: usize, row: Row) -> Step
-    ensures { Operates byte terms.old operator row.at row.count row.ids result.at result.count result.id terms.new }
-{
-    if row.count > MOST_TERMS {
-        return no_room();
-    }
-    let ids = row.ids;
     if swaps(byte) {
-        return put_operator(terms, operator, row.at, row.count, in_order(ids));
+        return put(terms, count, 17, operator, in_order(ids));
     }
-    put_operator(terms, operator, row.at, row.count, ids)
+    put(terms, count, 17, operator, ids)
 }
 
 // The tree at `at`, whose operators nest at most `left` deep.
@@ -181,24 +154,34 @@ fn node(
     terms: &mut [u32],
     count: u32,
     left: usize,
-) -> Step
-    requires { header_words ≤ length list.now }
-    ensures { Works bases.now list.now left at cells.old terms.old count result.at result.count result.id cells.new terms.new }
+) -> Option<Step>
+    requires { (header_words ≤ length list.now) × (count ≤ 4096) }
+    ensures { Steps (λ at' count' id. Works bases.now list.now left at cells.old terms.old count at' count' id cells.new terms.new) result }
 {
     if list.len() - 3 < at {
-        return no_room();
+        return None;
     }
     if list[at] != 17 {
-        return leaf(list, at, bases, cells, terms, count);
+        let kept = leaf(list, at, bases, cells, terms, count)?;
+        return Some(Step {
+            at: at + 3,
+            count: kept.count,
+            id: kept.id,
+        });
     }
     if left == 0 {
-        return no_room();
+        return None;
     }
     let o = list[at + 1];
     let byte = byte_of(list, o);
     let n = arity(byte);
-    let row = args(list, at + 3, bases, cells, terms, count, left - 1, n);
-    operate(terms, o, byte, row)
+    let row = args(list, at + 3, bases, cells, terms, count, left - 1, n)?;
+    let whole = operate(terms, o, byte, row.count, row.ids)?;
+    Some(Step {
+        at: row.at,
+        count: whole.count,
+        id: whole.id,
+    })
 }
 
 // The n arguments at `at`. Their ids are kept as four numbers: the processor waits for an array that is filled a word at a time and
@@ -213,9 +196,9 @@ fn args(
     count: u32,
     left: usize,
     n: usize,
-) -> Row
-    requires { (header_words ≤ length list.now) × (n ≤ 4) }
-    ensures { WorksAll bases.now list.now left at cells.old terms.old count 0 n (replicate 4 0) result.at result.count result.ids cells.new terms.new }
+) -> Option<Row>
+    requires { (header_words ≤ length list.now) × (count ≤ 4096) × (n ≤ 4) }
+    ensures { Rows (λ at' count' ids. WorksAll bases.now list.now left at cells.old terms.old count 0 n (replicate 4 0) at' count' ids cells.new terms.new) result }
 {
     let mut at = at;
     let mut count = count;
@@ -224,59 +207,46 @@ fn args(
     let mut a2: u32 = 0;
     let mut a3: u32 = 0;
     for k in 0..n {
-        let s = node(list, at, bases, cells, terms, count, left);
-        count = s.count;
-        if count > MOST_TERMS {
-            return Row {
-                at,
-                count,
-                ids: [a0, a1, a2, a3],
-            };
-        }
+        let s = node(list, at, bases, cells, terms, count, left)?;
         a0 = pick(k == 0, s.id, a0);
         a1 = pick(k == 1, s.id, a1);
         a2 = pick(k == 2, s.id, a2);
         a3 = pick(k == 3, s.id, a3);
         at = s.at;
+        count = s.count;
     }
-    Row {
+    Some(Row {
         at,
         count,
         ids: [a0, a1, a2, a3],
-    }
+    })
 }
 
-// Works out the updates one after another. The answer is the number of terms then, or above 4,096 where they have no room.
+// Works out the updates one after another. The answer is the number of terms then, where they have room.
 pub(crate) fn apply_updates(
     list: &[u32],
     bases: &[usize; 17],
     cells: &mut [u32],
     terms: &mut [u32],
     count: u32,
-) -> u32
-    requires { header_words ≤ length list.now }
-    ensures { Applies bases.now list.now 98 cells.old terms.old count result cells.new terms.new }
+) -> Option<u32>
+    requires { (header_words ≤ length list.now) × (count ≤ 4096) }
+    ensures { Counts (λ count'. Applies bases.now list.now 98 cells.old terms.old count count' cells.new terms.new) result }
 {
     let mut at: usize = HEADER_WORDS;
     let mut n = count;
     while at <= list.len() - 3 {
         if list[at] != 1 {
-            return n;
+            return Some(n);
         }
-        let k = slot(bases, list[at + 1], list[at + 2]);
-        let s = node(list, at + 3, bases, cells, terms, n, 12);
-        if s.count > MOST_TERMS {
-            return 4097;
-        }
-        if k >= cells.len() {
-            return 4097;
+        let k = slot(bases, list[at + 1], list[at + 2])?;
+        let s = node(list, at + 3, bases, cells, terms, n, 12)?;
+        if k >= cells.len() || s.at <= at {
+            return None;
         }
         cells[k] = s.id;
         n = s.count;
-        if s.at <= at {
-            return 4097;
-        }
         at = s.at;
     }
-    n
+    Some(n)
 }

@@ -1,6 +1,7 @@
 use native.Mathlib.Omega.{arith}
 use Rattle.comparer.proofs.Whole.{match_left, match_right, match_cells, match_full, match_over, match_done}
 use borrow.Author.Rules.{rules}
+use Rattle.comparer.specs.Work.{Counts}
 use Rattle.comparer.proofs.compare.match_lists.Goals as goal
 use Rattle.comparer.proofs.compare.match_lists.Goals.{then-left-lt-HEADER_WORDS-via-then-left-lt-HEADER_WORDS, then-left-lt-HEADER_WORDS-via-else-left-lt-HEADER_WORDS+then-right-lt-HEADER_WORDS, then-left-lt-HEADER_WORDS-via-else-left-lt-HEADER_WORDS+else-right-lt-HEADER_WORDS+then-cells-lt-CELL_WORDS}
 
@@ -12,11 +13,23 @@ returns-then-left-lt-HEADER_WORDS c =
       | then-left-lt-HEADER_WORDS-via-else-left-lt-HEADER_WORDS+else-right-lt-HEADER_WORDS+then-cells-lt-CELL_WORDS w ↦ match_cells _ _ _ _ _ _ w.if-cells-lt-CELL_WORDS.true
     ]
 
-pub returns-then-n-gt-MOST_TERMS : goal.returns-then-n-gt-MOST_TERMS
-returns-then-n-gt-MOST_TERMS c = match_full _ _ _ c.args.cells.now _ _ _ c.bases_of-lefts.ensures c.bases_of-rights.ensures c.apply_updates-n.new.cells _ _ c.apply_updates-n.ensures c.if-cells-lt-CELL_WORDS.false (omega (arith, c.if-n-gt-MOST_TERMS.true))
+pub returns-in_default : goal.returns-in_default
+unfolding Counts
+returns-in_default c = match_full _ _ _ c.args.cells.now _ _ _ c.bases_of-lefts.ensures c.bases_of-rights.ensures c.apply_updates.new.cells _ _ c.in_default.ensures c.if-cells-lt-CELL_WORDS.false (omega arith)
 
-pub returns-then-k-gt-MOST_TERMS : goal.returns-then-k-gt-MOST_TERMS
-returns-then-k-gt-MOST_TERMS c = match_over _ _ _ c.args.cells.now _ _ _ c.bases_of-lefts.ensures c.bases_of-rights.ensures c.apply_updates-n.new.cells _ _ c.apply_updates-n.ensures c.if-cells-lt-CELL_WORDS.false (omega (arith, c.if-n-gt-MOST_TERMS.false)) (search rules) c.apply_updates-k.new.cells _ _ c.apply_updates-k.ensures (omega (arith, c.if-k-gt-MOST_TERMS.true))
+pub apply_updates-requires-2 : goal.apply_updates-requires-2
+unfolding Counts
+apply_updates-requires-2 c = (c.if-right-lt-HEADER_WORDS.false, c.in-Some.ensures.0)
+
+pub returns-in_default-apply_updates : goal.returns-in_default-apply_updates
+unfolding Counts
+returns-in_default-apply_updates c =
+    let n = c.in-Some.ensures in
+    match_over _ _ _ c.args.cells.now _ _ _ c.bases_of-lefts.ensures c.bases_of-rights.ensures c.apply_updates.new.cells _ _ n.1 c.if-cells-lt-CELL_WORDS.false n.0 (search rules) c.apply_updates-2.new.cells _ _ c.in_default-apply_updates.ensures (omega arith)
 
 pub returns : goal.returns
-returns c = match_done _ _ _ c.args.cells.now _ _ _ c.bases_of-lefts.ensures c.bases_of-rights.ensures c.apply_updates-n.new.cells _ _ c.apply_updates-n.ensures c.if-cells-lt-CELL_WORDS.false (omega (arith, c.if-n-gt-MOST_TERMS.false)) (search rules) c.apply_updates-k.new.cells _ _ c.apply_updates-k.ensures (omega (arith, c.if-k-gt-MOST_TERMS.false)) (search rules) _ c.first_array.ensures
+unfolding Counts
+returns c =
+    let n = c.in-Some.ensures in
+    let k = c.in-Some-apply_updates.ensures in
+    match_done _ _ _ c.args.cells.now _ _ _ c.bases_of-lefts.ensures c.bases_of-rights.ensures c.apply_updates.new.cells _ _ n.1 c.if-cells-lt-CELL_WORDS.false n.0 (search rules) c.apply_updates-2.new.cells _ _ k.1 k.0 (search rules) _ c.first_array.ensures

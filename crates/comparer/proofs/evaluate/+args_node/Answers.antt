@@ -1,35 +1,72 @@
-use Rattle.comparer.proofs.Leaves.{node_leaf}
-use Rattle.comparer.proofs.Arguments.{node-short, node_deep, node_done, all_none, all_full, all_picked, four_picked}
 use borrow.Author.Rules.{rules}
 use native.Mathlib.Omega.{arith}
+use Rattle.comparer.specs.Work.{Keeps, Steps, Rows}
+use Rattle.comparer.proofs.Leaves.{node_leaf, works_over}
+use Rattle.comparer.proofs.Arguments.{node-short, node_deep, node-full, node_put, all_none, all_full, all_picked, four_picked}
 use Rattle.comparer.proofs.evaluate.+args_node.Goals as goal
 
 pub args-loop-k-init : goal.args-loop-k-init
-args-loop-k-init t c = λ at count ids cells m w. w
+args-loop-k-init t c = (c.requires.1, λ at count ids cells m w. w)
 
-pub args-node-s-requires : goal.args-node-s-requires
-args-node-s-requires t c = (omega arith, search rules)
+pub args-node-requires : goal.args-node-requires
+args-node-requires t c = (omega arith, (c.requires.0, c.loop-k.invariant.0))
 
-pub args-returns-then-count-gt-MOST_TERMS : goal.args-returns-then-count-gt-MOST_TERMS
-args-returns-then-count-gt-MOST_TERMS t c = c.loop-k.invariant _ _ _ _ _ (all_full _ _ _ _ _ _ _ _ _ _ c.loop-k-test.true _ _ _ _ _ c.node-s.ensures c.if-count-gt-MOST_TERMS.true _ _)
+pub args-returns-in_err-s : goal.args-returns-in_err-s
+unfolding Steps Rows
+args-returns-in_err-s t c =
+    rw c.from_residual.ensures (c.loop-k.invariant.1 _ _ _ _ _ (all_full _ _ _ _ _ _ _ _ _ _ c.loop-k-test.true _ _ _ _ _ c.in_err-s.ensures (omega arith) _ _))
 
 pub args-loop-k-preserved : goal.args-loop-k-preserved
-args-loop-k-preserved t c = let l = c.loop-k in λ at count ids cells m w. l.invariant at count ids cells m (all_picked _ _ _ _ _ _ _ _ _ _ c.loop-k-test.true _ _ _ _ _ c.node-s.ensures c.if-count-gt-MOST_TERMS.false c.requires.1 _ (λ _. four_picked l.a0 l.a1 l.a2 l.a3 l.k c.node-s.result.id _ _ _ _ c.pick-a0.ensures c.pick-a1.ensures c.pick-a2.ensures c.pick-a3.ensures) at count ids cells m w)
+unfolding Steps
+args-loop-k-preserved t c =
+    let l = c.loop-k in
+    let s = c.in_ok-s.ensures in (
+      s.0,
+      λ at count ids cells m w. l.invariant.1 at count ids cells m
+          (all_picked _ _ _ _ _ _ _ _ _ _ c.loop-k-test.true _ _ _ _ _ s.1 s.0 c.requires.2 _
+          (λ _. four_picked l.a0 l.a1 l.a2 l.a3 l.k c.in_ok-s.s.id _ _ _ _ c.pick-a0.ensures c.pick-a1.ensures c.pick-a2.ensures c.pick-a3.ensures) at count ids cells m w),
+    )
 
 pub args-returns : goal.args-returns
-args-returns t c = c.loop-k.invariant _ _ _ _ _ (all_none _ _ _ _ _ _ _ _ _ _ c.loop-k-test.false)
+unfolding Rows
+args-returns t c = (c.loop-k.invariant.0, c.loop-k.invariant.1 _ _ _ _ _ (all_none _ _ _ _ _ _ _ _ _ _ c.loop-k-test.false))
 
 pub node-returns-then-list-at : goal.node-returns-then-list-at
+unfolding Steps
 node-returns-then-list-at t c = node-short _ _ _ _ _ _ _ (omega arith) _ _ _ _ _
 
+pub node-returns-in_err-kept : goal.node-returns-in_err-kept
+unfolding Keeps Steps
+node-returns-in_err-kept t c =
+    rw c.from_residual.ensures (works_over _ _ _ _ _ _ _ _ _ _ _ _ _ _ _ (omega arith) (node_leaf _ _ _ _ _ _ _ _ _ _ _ _ c.if-list-at-ne17.true c.in_err-kept.ensures))
+
 pub node-returns-then-list-at-ne17 : goal.node-returns-then-list-at-ne17
-node-returns-then-list-at-ne17 t c = node_leaf _ _ _ _ _ _ _ _ _ _ _ _ c.if-list-at-ne17.true c.leaf.ensures
+unfolding Keeps Steps
+node-returns-then-list-at-ne17 t c = (c.in_ok-kept.ensures.0, node_leaf _ _ _ _ _ _ _ _ _ _ _ _ c.if-list-at-ne17.true c.in_ok-kept.ensures.1)
 
 pub node-returns-then-left-eq0 : goal.node-returns-then-left-eq0
+unfolding Steps
 node-returns-then-left-eq0 t c = node_deep _ _ _ _ _ _ _ c.if-list-at-ne17.false c.if-left-eq0.true _ _ _ _ _
 
-pub node-args-row-requires : goal.node-args-row-requires
-node-args-row-requires t c = (omega arith, search rules)
+pub node-args-requires : goal.node-args-requires
+node-args-requires t c = (omega arith, search rules)
+
+pub node-returns-in_err-row : goal.node-returns-in_err-row
+unfolding Rows Steps
+node-returns-in_err-row t c =
+    rw c.from_residual-in_err-row.ensures (node-full _ _ _ _ _ _ _ c.if-list-at-ne17.false _ c.byte_of-byte.ensures _ c.arity-n.ensures _ _ _ _ _ c.in_err-row.ensures (omega arith) _ _ _ _ _ (omega arith))
+
+pub node-returns-in_err-whole : goal.node-returns-in_err-whole
+unfolding Keeps Rows Steps
+node-returns-in_err-whole t c =
+    let r = c.in_ok-row.ensures in
+    rw c.from_residual-in_err-whole.ensures
+    (works_over _ _ _ _ _ _ _ _ _ _ _ _ _ _ _ (omega arith)
+    (node_put _ _ _ _ _ _ _ c.if-list-at-ne17.false _ c.byte_of-byte.ensures _ c.arity-n.ensures _ _ _ _ _ r.1 r.0 _ _ _ c.in_err-whole.ensures))
 
 pub node-returns : goal.node-returns
-node-returns t c = node_done _ _ _ _ _ _ _ c.if-list-at-ne17.false _ c.byte_of-byte.ensures _ c.arity-n.ensures _ _ _ _ _ c.args-row.ensures _ _ _ _ c.operate.ensures
+unfolding Keeps Rows Steps
+node-returns t c =
+    let r = c.in_ok-row.ensures in
+    let k = c.in_ok-whole.ensures in
+    (k.0, node_put _ _ _ _ _ _ _ c.if-list-at-ne17.false _ c.byte_of-byte.ensures _ c.arity-n.ensures _ _ _ _ _ r.1 r.0 _ _ _ k.1)
