@@ -1,13 +1,11 @@
 -- What the functions over the header's words answer, and that their sums are the bases of the tables.
-use mathlib.Core.Path.{◌≡◌, refl, sym, ap, ap₂, ◌∙◌, subst}
-use mathlib.Core.Logic.{⊎_elim}
+use mathlib.Core.Path.{◌≡◌, refl, sym, ap, ◌∙◌}
 use mathlib.Core.Bool.{Bool, true, false, ◌&&◌, ◌||◌, and-false, and-true}
 use mathlib.Core.List.{List, [], ◌∷◌}
 use Prim.Native.Nat.{ℕ, zero, suc, ◌+◌, ◌*◌, ◌/◌, ◌%◌, ◌^◌, ◌≤◌, ◌<◌}
-use native.Mathlib.Nat.{eq-or-lt_of_le, mul-one, mul_assoc}
+use native.Mathlib.Nat.{mul-one, mul_assoc}
 use native.Mathlib.Omega.{arith}
-use lib.ListN.{length, get_or, set, replicate, length-set}
-use lib.Seq.{get_or-set_same, get_or-set_other}
+use lib.ListN.{length, get_or}
 use lib.Dec.{eqb, ltb}
 use borrow.Author.Tests.{eq-eqb, ne_eqb, le-leb, lt-leb}
 use Rattle.model.specs.Test.{within, every}
@@ -58,44 +56,6 @@ pub record SumsTo (list table : List ℕ) (k : ℕ) : Type 0 where
   pub first : get_or table 0 0 ≡ 0
   pub next : (a : ℕ) → a < k → get_or table (a + 1) 0 ≡ get_or table a 0 + size_at list a
   pub small : get_or table k 0 ≤ 1073741824 * k
-
-pub sums_none : (list : List ℕ) → SumsTo list (replicate 17 0) 0
-sums_none list = record { inside = omega arith; long = refl; first = refl; next = λ a h. absurd (omega arith); small = omega arith }
-
-pub sums_more : (list table : List ℕ) (k n : ℕ) → k < 16 → SumsTo list table k → n ≡ size_at list k → n ≤ 1073741824
-    → SumsTo list (set table (k + 1) (get_or table k 0 + n)) (k + 1)
-sums_more list table k n h s e f = record {
-  inside = omega arith;
-  long = length-set table (k + 1) v ∙ s.long;
-  first = get_or-set_other table (k + 1) 0 v 0 (omega arith) ∙ s.first;
-  next = λ a i. step a i;
-  small = subst (λ (x : ℕ). x ≤ 1073741824 * (k + 1)) (sym here) (omega (arith, s.small));
-}
-  where
-    v : ℕ
-    v = get_or table k 0 + n
-
-    here : get_or (set table (k + 1) (get_or table k 0 + n)) (k + 1) 0 ≡ get_or table k 0 + n
-    here = get_or-set_same table (k + 1) (get_or table k 0 + n) 0 (omega (arith, s.long))
-
-    other : (a : ℕ) → a ≤ k → get_or (set table (k + 1) (get_or table k 0 + n)) a 0 ≡ get_or table a 0
-    other a i = get_or-set_other table (k + 1) a (get_or table k 0 + n) 0 (omega arith)
-
-    Goal : ℕ → Type 0
-    Goal a = get_or (set table (k + 1) (get_or table k 0 + n)) (a + 1) 0 ≡ get_or (set table (k + 1) (get_or table k 0 + n)) a 0 + size_at list a
-
-    below : (a : ℕ) → a < k + 1 → a ≤ k
-    below a i = omega arith
-
-    step : (a : ℕ) → a < k + 1 → Goal a
-    step a i =
-        ⊎_elim
-        (λ (q : a ≡ k). subst Goal (sym q) (here ∙ ap₂ (λ (x y : ℕ). x + y) (sym (other k (omega arith))) e))
-        (λ (q : a < k). other (a + 1) (omega arith) ∙ s.next a q ∙ ap (λ (x : ℕ). x + size_at list a) (sym (other a (omega arith))))
-        (eq-or-lt_of_le (below a i))
-
-pub sums_all : (list table : List ℕ) (k : ℕ) → 16 ≤ k → SumsTo list table k → Sums list table
-sums_all list table k h s = record { long = s.long; first = s.first; next = λ a i. s.next a (omega (arith, s.inside)) }
 
 -- ---- the words of a table
 module _ (list : List ℕ) (t : Tables) (H : HeaderAt list t) (P : TablesParts t) where
