@@ -1,5 +1,5 @@
 -- Working out the updates of a list as terms of a store: what cells and store hold, and what each function does to them.
-use Rattle.std.specs.Prelude.{ℕ, ◌+◌, ◌≤◌, ◌<◌, ◌≡◌, ◌⊎◌, List, [], Option, None, Some, Bool, true, false, length, get_or}
+use Rattle.std.specs.Prelude.{ℕ, ◌+◌, ◌≤◌, ◌<◌, ◌≡◌, ◌⊎◌, List, Option, None, Some, Bool, true, false, length, get_or}
 use Rattle.model.specs.Tables.{arity_of, swaps_at}
 use Rattle.model.specs.Update.{Tree, Trees, Update}
 use Rattle.model.specs.Update.Tree.{cell}
@@ -8,7 +8,6 @@ use Rattle.terms.specs.declared.Kept.{Kept}
 use Rattle.terms.specs.Stored.{Ref, Args, Stored, Outcome}
 use Rattle.unroller.specs.Stands.{Proper, many, TreeAt, TreesAt, UpdatesAt}
 use Rattle.comparer.specs.declared.evaluate.Step.{Step}
-use Rattle.comparer.specs.declared.evaluate.Row.{Row}
 use Rattle.comparer.specs.Meaning.{Content, value_of, values_of, free, trees_of, after, values}
 
 -- the header's words of the operators
@@ -42,15 +41,10 @@ unfoldable pub Keeps : (ℕ → ℕ → Type 0) → Option Kept → Type 0
 Keeps P None = P 4097 0
 Keeps P (Some k) = (k.count ≤ 4096) × P k.count k.id
 
--- with a place and an id
-unfoldable pub Steps : (ℕ → ℕ → ℕ → Type 0) → Option Step → Type 0
-Steps P None = P 0 4097 0
+-- with a place, and an id or several
+unfoldable pub Steps : {A : Type 0} → (ℕ → ℕ → A → Type 0) → Option (Step A) → Type 0
+Steps {A} P None = (id : A) → P 0 4097 id
 Steps P (Some s) = (s.count ≤ 4096) × P s.at s.count s.id
-
--- with a place and four ids
-unfoldable pub Rows : (ℕ → ℕ → List ℕ → Type 0) → Option Row → Type 0
-Rows P None = P 0 4097 []
-Rows P (Some r) = (r.count ≤ 4096) × P r.at r.count r.ids
 
 -- the one, or the other
 abbrev pub Picks : Bool → ℕ → ℕ → ℕ → Type 0

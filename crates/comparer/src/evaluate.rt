@@ -3,26 +3,18 @@ ghost use Rattle.std.specs.Prelude.{◌≡◌, ◌+◌, ◌≤◌, ◌<◌, leng
 ghost use Rattle.model.specs.Memory.{header_words};
 ghost use Rattle.terms.specs.Stored.{sorted, Puts};
 ghost use Rattle.model.specs.Tables.{swaps};
-ghost use Rattle.comparer.specs.Work.{Keeps, Steps, Rows, Counts, Finds, Picks, Byte, Arity, Reads, Works, WorksLeaf, WorksAll, Applies};
+ghost use Rattle.comparer.specs.Work.{Keeps, Steps, Counts, Finds, Picks, Byte, Arity, Reads, Works, WorksLeaf, WorksAll, Applies};
 
 use model::operator::swaps;
 use model::sizes::{CELL_WORDS, HEADER_WORDS, MOST_TERMS};
 use terms::Kept;
 
-// The place past a tree, the number of terms, and the id plus 1.
+// The place past a tree, the number of terms, and the id plus 1; or past the arguments of an operator, with their four ids.
 #[derive(Clone, Copy)]
-struct Step {
+struct Step<T> {
     at: usize,
     count: u32,
-    id: u32,
-}
-
-// The same for the arguments of an operator.
-#[derive(Clone, Copy)]
-struct Row {
-    at: usize,
-    count: u32,
-    ids: [u32; 4],
+    id: T,
 }
 
 // A term, stored where it is not yet and where there is room.
@@ -154,7 +146,7 @@ fn node(
     terms: &mut [u32],
     count: u32,
     left: usize,
-) -> Option<Step>
+) -> Option<Step<u32>>
     requires { (header_words ≤ length list.now) × (count ≤ 4096) }
     ensures { Steps (λ at' count' id. Works bases.now list.now left at cells.old terms.old count at' count' id cells.new terms.new) result }
 {
@@ -176,7 +168,7 @@ fn node(
     let byte = byte_of(list, o);
     let n = arity(byte);
     let row = args(list, at + 3, bases, cells, terms, count, left - 1, n)?;
-    let whole = operate(terms, o, byte, row.count, row.ids)?;
+    let whole = operate(terms, o, byte, row.count, row.id)?;
     Some(Step {
         at: row.at,
         count: whole.count,
@@ -196,9 +188,9 @@ fn args(
     count: u32,
     left: usize,
     n: usize,
-) -> Option<Row>
+) -> Option<Step<[u32; 4]>>
     requires { (header_words ≤ length list.now) × (count ≤ 4096) × (n ≤ 4) }
-    ensures { Rows (λ at' count' ids. WorksAll bases.now list.now left at cells.old terms.old count 0 n (replicate 4 0) at' count' ids cells.new terms.new) result }
+    ensures { Steps (λ at' count' ids. WorksAll bases.now list.now left at cells.old terms.old count 0 n (replicate 4 0) at' count' ids cells.new terms.new) result }
 {
     let mut at = at;
     let mut count = count;
@@ -215,10 +207,10 @@ fn args(
         at = s.at;
         count = s.count;
     }
-    Some(Row {
+    Some(Step {
         at,
         count,
-        ids: [a0, a1, a2, a3],
+        id: [a0, a1, a2, a3],
     })
 }
 

@@ -22,7 +22,7 @@ node-requires c = (c.requires.0, c.loop-at.invariant.0)
 pub returns-in_err-s : goal.returns-in_err-s
 unfolding Counts Steps
 returns-in_err-s c =
-    rw c.from_residual-in_err-s.ensures (c.loop-at.invariant.1 _ _ _ (upd_full _ _ _ _ _ _ (omega arith) c.if-list-at-ne1.false _ _ _ _ _ c.in_err-s.ensures (omega arith) _))
+    rw c.from_residual-in_err-s.ensures (c.loop-at.invariant.1 _ _ _ (upd_full _ _ _ _ _ _ (omega arith) c.if-list-at-ne1.false _ _ _ _ _ (c.in_err-s.ensures 0) (omega arith) _))
 
 pub returns-then-k-cells : goal.returns-then-k-cells
 unfolding Counts Steps
