@@ -40,6 +40,7 @@ fn slot(bases: &[usize; 17], array: u32, cell: u32) -> Option<usize>
 }
 
 // What the cell holds now. One that is not written yet is its starting cell, whose id it holds from then on.
+// Bases, cells and terms stay parameters here and below: in a struct, each method would promise that both slices keep their borrow and length.
 fn read(
     bases: &[usize; 17],
     cells: &mut [u32],
