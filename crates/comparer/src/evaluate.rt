@@ -182,19 +182,17 @@ fn node(
 #[cycle(args_node)]
 fn args(
     list: &[u32],
-    at: usize,
+    mut at: usize,
     bases: &[usize; 17],
     cells: &mut [u32],
     terms: &mut [u32],
-    count: u32,
+    mut count: u32,
     left: usize,
     n: usize,
 ) -> Option<Step<[u32; 4]>>
     requires { (header_words ≤ length list.now) × (count ≤ 4096) × (n ≤ 4) }
     ensures { Steps (λ at' count' ids. WorksAll bases.now list.now left at cells.old terms.old count 0 n (replicate 4 0) at' count' ids cells.new terms.new) result }
 {
-    let mut at = at;
-    let mut count = count;
     let mut a0: u32 = 0;
     let mut a1: u32 = 0;
     let mut a2: u32 = 0;
