@@ -6,7 +6,7 @@ ghost use Rattle.std.specs.Prelude.{◌≤◌, length};
 ghost use Rattle.source.specs.Within.{Within};
 
 use comparer::reply::Reply;
-use comparer::{LENGTHS_BYTES, Lengths, Line, MOST_PAIRS, Totals};
+use comparer::{LENGTHS_BYTES, Line, MOST_PAIRS, Totals};
 use model::sizes::{CELL_WORDS, LIST_WORDS, TERM_WORDS};
 use source::Got;
 use std::io::Read;
@@ -88,14 +88,9 @@ fn turn(
     match source::fill(input, &mut head) {
         Got::Failed(_) => unread(rt),
         Got::Bytes(n) => match comparer::pair_lengths(&head[0..n]) {
-            Lengths::Ended => Next::Last(totals),
-            Lengths::Refused(side, number) => answered(
-                rt,
-                totals,
-                comparer::lengths_reply(side, number),
-                false,
-            ),
-            Lengths::Sizes(l, r) => behind(
+            Ok(None) => Next::Last(totals),
+            Err(e) => answered(rt, totals, comparer::lengths_reply(e.side, e.number), false),
+            Ok(Some((l, r))) => behind(
                 rt, input, totals, l, r, body, left_list, right_list, cells, terms,
             ),
         },

@@ -8,9 +8,8 @@ use lib.ListN.{length, get_or, take, drop}
 use borrow.Author.Tests.{lt-leb, le-leb, leb-true}
 use Rattle.model.specs.Reply as model
 use Rattle.comparer.specs.Entry.{programs_reply, all_bits, entry_reply}
-use Rattle.comparer.specs.Batch.{Lengths, ended, last, sizes, sized, lengths_of, one_equal, one_differs, one_refused, elements_of}
-use Rattle.comparer.specs.BatchSteps.{is_whole, body_reply, capped, counted}
-use Rattle.comparer.specs.declared.batch.Totals.{Totals}
+use Rattle.comparer.specs.Batch.{Lengths, ended, last, sizes, sized, lengths_of}
+use Rattle.comparer.specs.BatchSteps.{is_whole, body_reply}
 
 -- the two lengths
 module _ (l r : ℕ) where
@@ -42,14 +41,6 @@ four_bytes (b ∷ s) l r x h e f g =
     let q : get_or (b ∷ s) 2 0 + 256 * (get_or (b ∷ s) 3 0 + 256 * 0) ≡ r = omega arith in
     rw (le-leb 4 (length (b ∷ s)) h, p, q) g
 
--- whether the bytes behind them are all there
-module _ (n l r : ℕ) where
-  pub not-whole : n < l + r → false ≡ is_whole n l r
-  not-whole h = rw (lt-leb (l + r) n h)
-
-  pub is_whole_lem : l + r ≤ n → true ≡ is_whole n l r
-  is_whole_lem h = rw (le-leb (l + r) n h)
-
 -- what they say, after 25
 module _ (l r : ℕ) (s : List ℕ) where
   pub cut-body : (long : Bool) (x : model.Reply) → is_whole (length s) l r ≡ false → x ≡ entry_reply long (model.refused model.input 1 0) → x ≡ entry_reply long (body_reply l r s)
@@ -65,12 +56,3 @@ module _ (l r : ℕ) (s : List ℕ) where
 
   pub whole_room : is_whole (length s) l r ≡ true → l + r ≤ length s
   whole_room e = leb-true (l + r) (length s) e
-
--- the totals
-pub same_total : (n : ℕ) → n < 18446744073709551616 → n ≡ capped (n + 0)
-same_total n h = omega arith
-
-pub counted_by : (t : Totals) (x : model.Reply) (p e d r c : ℕ) → p ≡ capped (t.pairs + 1) → e ≡ capped (t.equal + one_equal x) → d ≡ capped (t.differs + one_differs x)
-    → r ≡ capped (t.refused + one_refused x) → c ≡ capped (t.elements + elements_of x)
-    → ◌≡◌ {A = Totals} (record { pairs = p; equal = e; differs = d; refused = r; elements = c }) (counted t x)
-counted_by t x p e d r c a b f g h = cc

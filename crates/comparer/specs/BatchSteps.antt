@@ -1,19 +1,18 @@
 -- A run over many pairs, step by step: what one call answers, and what the program prints that makes the calls in turn.
-use Rattle.std.specs.Prelude.{ℕ, zero, suc, ◌+◌, min, List, ◌++◌, Bool, true, false, length, take, drop, leb}
+use Rattle.std.specs.Prelude.{ℕ, zero, suc, ◌+◌, min, List, ◌++◌, Bool, true, false, length, take, drop, leb, Result, Ok, Err, Option, Some, None}
 use Rattle.model.specs.Reply.{Reply}
 use Rattle.comparer.specs.Line.{line_of}
 use Rattle.comparer.specs.Answers.{side_says}
 use Rattle.comparer.specs.Batch as batch
 use Rattle.comparer.specs.Batch.{lengths_of, ended, last, sizes, broken, body_of, reply_of, one_equal, one_differs, one_refused, elements_of, totals_line}
-use Rattle.comparer.specs.declared.batch.Lengths.{Lengths}
-use Rattle.comparer.specs.declared.batch.Lengths.TheVariants as lengths
+use Rattle.comparer.specs.declared.batch.LengthsError.{LengthsError}
 use Rattle.comparer.specs.declared.batch.Totals.{Totals}
 
 -- what the code's lengths say, case by case
-abbrev pub lengths_says : Lengths → batch.Lengths
-lengths_says lengths.Ended = ended
-lengths_says (lengths.Refused side number) = last (side_says side) number
-lengths_says (lengths.Sizes l r) = sizes l r
+abbrev pub lengths_says : Result (Option (ℕ × ℕ)) LengthsError → batch.Lengths
+lengths_says (Ok None) = ended
+lengths_says (Ok (Some lengths)) = sizes lengths.0 lengths.1
+lengths_says (Err e) = last (side_says e.side) e.number
 
 -- Do n bytes behind the lengths l and r hold the pair? If not, it is the last.
 abbrev pub is_whole : ℕ → ℕ → ℕ → Bool

@@ -1,9 +1,9 @@
 // Many pairs, one after another: what a pair's lengths say, whether its bytes are all there, and the totals. `compare_pair` answers
 // for its bytes, `totals_line` has the text of the last line.
-ghost use Rattle.std.specs.Prelude.{◌≡◌, ◌+◌};
+ghost use Rattle.std.specs.Prelude.{◌≡◌, ◌+◌, ◌<◌, ◌≤◌, IfOk, IfErr};
 ghost use Rattle.comparer.specs.Answers.{side_says, reply_says};
-ghost use Rattle.comparer.specs.Batch.{lengths_of, sized, broken, reply_of};
-ghost use Rattle.comparer.specs.BatchSteps.{lengths_says, is_whole, capped, no_totals, counted};
+ghost use Rattle.comparer.specs.Batch.{lengths_of, broken, reply_of};
+ghost use Rattle.comparer.specs.BatchSteps.{lengths_says, is_whole, no_totals, counted};
 
 use crate::reply::{Reply, Side};
 use model::sizes::MOST_BYTES;
@@ -15,18 +15,15 @@ pub const MOST_PAIRS: usize = 65535;
 // The bytes that hold both lengths of a pair.
 pub const LENGTHS_BYTES: usize = 4;
 
-const MOST_COUNT: usize = 18446744073709551615;
-
-// No byte is left; side and question's number of the refusal of a pair that is the last; or both lengths.
-#[derive(Clone, Copy)]
-pub enum Lengths {
-    Ended,
-    Refused(Side, u8),
-    Sizes(usize, usize),
+// Why a pair is the last: side and question's number of its refusal. `lengths_reply` makes a reply of it.
+#[derive(Clone, Copy, Debug, PartialEq, Eq)]
+pub struct LengthsError {
+    pub side: Side,
+    pub number: u8,
 }
 
 // How many pairs there are, how many are equal, differ and are refused, and the sum of the counts of the equal ones.
-#[derive(Clone, Copy)]
+#[derive(Clone, Copy, Debug, PartialEq, Eq)]
 pub struct Totals {
     pub pairs: usize,
     pub equal: usize,
@@ -35,31 +32,31 @@ pub struct Totals {
     pub elements: usize,
 }
 
-fn sized_by(left: u16, right: u16) -> Lengths
-    ensures { lengths_says result ≡ sized left right }
+fn program_length(side: Side, stated: u16) -> Result<usize, LengthsError>
+    ensures ok { IfOk result (λ n. (n ≡ stated) × (stated ≤ 16384)) }
+    ensures err { IfErr result (λ e. (e ≡ record { side = side; number = 2 }) × (16384 < stated)) }
 {
-    let l = left as usize;
-    let r = right as usize;
-    if MOST_BYTES < l {
-        return Lengths::Refused(Side::Left, 2);
+    let length = usize::from(stated);
+    if length > MOST_BYTES {
+        return Err(LengthsError { side, number: 2 });
     }
-    if MOST_BYTES < r {
-        return Lengths::Refused(Side::Right, 2);
-    }
-    Lengths::Sizes(l, r)
+    Ok(length)
 }
 
-// Of the bytes from the start of a pair on, the first four.
-pub fn pair_lengths(bytes: &[u8]) -> Lengths
+// Both lengths, of the bytes from the start of a pair on; none where no byte is left.
+pub fn pair_lengths(bytes: &[u8]) -> Result<Option<(usize, usize)>, LengthsError>
     ensures { lengths_says result ≡ lengths_of bytes.now }
 {
-    if bytes.len() == 0 {
-        return Lengths::Ended;
+    if bytes.is_empty() {
+        return Ok(None);
     }
     if bytes.len() < LENGTHS_BYTES {
-        return Lengths::Refused(Side::Input, 1);
+        let side = Side::Input;
+        return Err(LengthsError { side, number: 1 });
     }
-    sized_by(pair(bytes[0], bytes[1]), pair(bytes[2], bytes[3]))
+    let left = program_length(Side::Left, pair(bytes[0], bytes[1]))?;
+    let right = program_length(Side::Right, pair(bytes[2], bytes[3]))?;
+    Ok(Some((left, right)))
 }
 
 // The reply to a pair that its lengths refuse.
@@ -73,13 +70,7 @@ pub fn lengths_reply(side: Side, number: u8) -> Reply
 pub fn pair_whole(count: usize, left: usize, right: usize) -> bool
     ensures { result ≡ is_whole count left right }
 {
-    if count < left {
-        return false;
-    }
-    if count - left < right {
-        return false;
-    }
-    true
+    left <= count && right <= count - left
 }
 
 pub fn no_totals() -> Totals
@@ -94,29 +85,22 @@ pub fn no_totals() -> Totals
     }
 }
 
-fn sum(n: usize, more: usize) -> usize
-    ensures { result ≡ capped (n + more) }
-{
-    let room = MOST_COUNT - n;
-    if more < room { n + more } else { MOST_COUNT }
-}
-
 // Each total stays at 2^64 - 1 where one more would pass it, which takes more pairs than a run has.
 pub fn count_reply(totals: Totals, reply: Reply) -> Totals
     ensures { result ≡ counted totals (reply_says reply) }
 {
     let mut out = totals;
-    out.pairs = sum(totals.pairs, 1);
+    out.pairs = totals.pairs.saturating_add(1);
     match reply {
         Reply::Equal(n) => {
-            out.equal = sum(totals.equal, 1);
-            out.elements = sum(totals.elements, n);
+            out.equal = totals.equal.saturating_add(1);
+            out.elements = totals.elements.saturating_add(n);
         }
         Reply::Differs(_, _) => {
-            out.differs = sum(totals.differs, 1);
+            out.differs = totals.differs.saturating_add(1);
         }
         Reply::Refused(_, _, _) => {
-            out.refused = sum(totals.refused, 1);
+            out.refused = totals.refused.saturating_add(1);
         }
     }
     out

@@ -13,7 +13,7 @@ pub mod reply;
 mod tables;
 
 pub use batch::{
-    LENGTHS_BYTES, Lengths, MOST_PAIRS, Totals, count_reply, lengths_reply, no_totals,
+    LENGTHS_BYTES, LengthsError, MOST_PAIRS, Totals, count_reply, lengths_reply, no_totals,
     pair_lengths, pair_whole,
 };
 pub use explanation::{

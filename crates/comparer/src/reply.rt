@@ -1,7 +1,7 @@
 // The three replies.
 
 // The side that a refusal names.
-#[derive(Clone, Copy)]
+#[derive(Clone, Copy, Debug, PartialEq, Eq)]
 pub enum Side {
     Left,
     Right,
@@ -9,8 +9,9 @@ pub enum Side {
     Input,
 }
 
-// The number of elements compared; array and cell number; or side, question's number and place.
-#[derive(Clone, Copy)]
+// The number of elements compared; array and cell number; or side, question's number and place. The number is any byte: lines and
+// totals are promised of every reply.
+#[derive(Clone, Copy, Debug, PartialEq, Eq)]
 pub enum Reply {
     Equal(usize),
     Differs(usize, usize),

@@ -3,7 +3,7 @@ use crate::explanations::say_sums;
 use crate::numbers::{Args, number_at, refused, say, say_bool};
 use crate::pairs::{say_line, say_reply};
 use comparer::reply::{Reply, Side};
-use comparer::{Lengths, Totals};
+use comparer::{LengthsError, Totals};
 
 pub(crate) fn called(rt: &impl Print, entry: usize, x: Args, s: &[u8]) {
     match entry {
@@ -22,16 +22,16 @@ pub(crate) fn called(rt: &impl Print, entry: usize, x: Args, s: &[u8]) {
     }
 }
 
-fn say_lengths(rt: &impl Print, lengths: Lengths) {
+fn say_lengths(rt: &impl Print, lengths: Result<Option<(usize, usize)>, LengthsError>) {
     match lengths {
-        Lengths::Ended => {
+        Ok(None) => {
             say(rt, 0);
         }
-        Lengths::Refused(side, number) => {
+        Err(e) => {
             say(rt, 1);
-            say_reply(rt, comparer::lengths_reply(side, number));
+            say_reply(rt, comparer::lengths_reply(e.side, e.number));
         }
-        Lengths::Sizes(l, r) => {
+        Ok(Some((l, r))) => {
             say(rt, 2);
             say(rt, l);
             say(rt, r);
