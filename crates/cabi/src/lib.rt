@@ -5,14 +5,13 @@
 
 ghost use Rattle.std.specs.Prelude.{◌≡◌, length};
 ghost use Rattle.model.specs.Reply.{equal, refused};
-ghost use Rattle.model.specs.Memory.{work_left};
 ghost use Rattle.unroller.specs.Unroll.{unroll_reply, unroll_leaves, check_reply};
 ghost use Rattle.unroller.specs.UnrollAnswers.{unrolled_says};
 ghost use Rattle.unroller.specs.CheckAnswers.{checked_says};
 ghost use Rattle.writer.specs.Write.{write_reply, write_leaves};
 ghost use Rattle.writer.specs.Answers.{written_says};
 ghost use Rattle.comparer.specs.Answers.{side_says, reply_says};
-ghost use Rattle.comparer.specs.Entry.{enough_lent, entry_reply, programs_reply, plain_reply, words_reply};
+ghost use Rattle.comparer.specs.Entry.{EntryAnswers, ListsAnswer, entry_reply, programs_reply, plain_reply, words_reply};
 ghost use Rattle.comparer.specs.Explain.{explanation};
 ghost use Rattle.comparer.specs.ExplainAnswers.{chosen_says, explanation_says};
 ghost use Rattle.cabi.specs.Numbers.{side_number, numbers_of, unrolled_numbers, checked_numbers, written_numbers, chosen_by, explanation_numbers};
@@ -126,12 +125,9 @@ pub extern "C" fn tengmua_compare_programs(
     cells: &mut [u32],
     terms: &mut [u32],
 ) -> Numbers
-    ensures { let long = enough_lent left_list.old right_list.old cells.old terms.old in
-        (result ≡ numbers_of (entry_reply long (programs_reply mask left.now right.now)))
-        × (left_list.new ≡ work_left long left_list.old)
-        × (right_list.new ≡ work_left long right_list.old)
-        × (cells.new ≡ work_left long cells.old)
-        × (terms.new ≡ work_left long terms.old) }
+    ensures { EntryAnswers result (λ long. numbers_of (entry_reply long (programs_reply mask left.now right.now)))
+        left_list.old right_list.old cells.old terms.old
+        left_list.new right_list.new cells.new terms.new }
 {
     let reply = compare_programs_masked(left, right, mask, left_list, right_list, cells, terms);
     reply_numbers(reply)
@@ -147,12 +143,9 @@ pub extern "C" fn tengmua_compare_plain(
     cells: &mut [u32],
     terms: &mut [u32],
 ) -> Numbers
-    ensures { let long = enough_lent left_list.old right_list.old cells.old terms.old in
-        (result ≡ numbers_of (entry_reply long (plain_reply left.now right.now)))
-        × (left_list.new ≡ work_left long left_list.old)
-        × (right_list.new ≡ work_left long right_list.old)
-        × (cells.new ≡ work_left long cells.old)
-        × (terms.new ≡ work_left long terms.old) }
+    ensures { EntryAnswers result (λ long. numbers_of (entry_reply long (plain_reply left.now right.now)))
+        left_list.old right_list.old cells.old terms.old
+        left_list.new right_list.new cells.new terms.new }
 {
     let reply = compare_programs(left, right, left_list, right_list, cells, terms);
     reply_numbers(reply)
@@ -167,10 +160,8 @@ pub extern "C" fn tengmua_compare_lists(
     cells: &mut [u32],
     terms: &mut [u32],
 ) -> Numbers
-    ensures { let long = enough_lent left.now right.now cells.old terms.old in
-        (result ≡ numbers_of (words_reply mask left.now right.now (length cells.old) (length terms.old)))
-        × (cells.new ≡ work_left long cells.old)
-        × (terms.new ≡ work_left long terms.old) }
+    ensures { ListsAnswer result (numbers_of (words_reply mask left.now right.now (length cells.old) (length terms.old)))
+        left.now right.now cells.old terms.old cells.new terms.new }
 {
     let reply = compare_lists(left, right, mask, cells, terms);
     reply_numbers(reply)
@@ -280,12 +271,9 @@ pub extern "C" fn tengmua_explain(
     cells: &mut [u32],
     terms: &mut [u32],
 ) -> ExplanationNumbers
-    ensures { let long = enough_lent left_list.old right_list.old cells.old terms.old in
-        (result ≡ explanation_numbers (explanation long mask (chosen_by side) left.now right.now))
-        × (left_list.new ≡ work_left long left_list.old)
-        × (right_list.new ≡ work_left long right_list.old)
-        × (cells.new ≡ work_left long cells.old)
-        × (terms.new ≡ work_left long terms.old) }
+    ensures { EntryAnswers result (λ long. explanation_numbers (explanation long mask (chosen_by side) left.now right.now))
+        left_list.old right_list.old cells.old terms.old
+        left_list.new right_list.new cells.new terms.new }
 {
     let chosen = chosen_by(side);
     let explanation = explain(

@@ -1,9 +1,9 @@
 -- The replies of the entries: two lists in words, two programs, framed input (docs/QUESTIONS.md, and docs/FORMAT.md, "The program").
-use Rattle.std.specs.Prelude.{ℕ, List, Bool, ◌&&◌, length, take, drop, leb, if◌then◌else◌}
+use Rattle.std.specs.Prelude.{ℕ, ◌≡◌, List, Bool, ◌&&◌, length, take, drop, leb, if◌then◌else◌}
 use Rattle.std.proofs.Math.Option.{Option, none, some}
 use Rattle.model.specs.Update.{Listed}
 use Rattle.model.specs.Reply.{Reply, Side, refused, left, right, both, input}
-use Rattle.model.specs.Memory.{list_words, cell_words, term_words}
+use Rattle.model.specs.Memory.{list_words, cell_words, term_words, work_left}
 use Rattle.reader.specs.Field.{little_endian}
 use Rattle.unroller.specs.Run.{Ran, ok, stop}
 use Rattle.unroller.specs.Decode.{decode}
@@ -27,6 +27,18 @@ enough_lent one other cells terms = enough (length one) (length other) (length c
 -- a reply, after 25
 abbrev pub entry_reply : Bool → Reply → Reply
 entry_reply long reply = if long then reply else refused both 25 0
+
+-- What an entry answers that is lent two lists, cells and terms, by whether all four are long enough; and what it leaves in each.
+abbrev pub EntryAnswers : {A : Type 0} → A → (Bool → A) → (one other cells terms one' other' cells' terms' : List ℕ) → Type 0
+EntryAnswers result says one other cells terms one' other' cells' terms' =
+    let long = enough_lent one other cells terms in
+    (result ≡ says long) × (one' ≡ work_left long one) × (other' ≡ work_left long other) × (cells' ≡ work_left long cells) × (terms' ≡ work_left long terms)
+
+-- The same of an entry that reads two lists, and is lent cells and terms. What it says knows the lengths.
+abbrev pub ListsAnswer : {A : Type 0} → A → A → (one other cells terms cells' terms' : List ℕ) → Type 0
+ListsAnswer result says one other cells terms cells' terms' =
+    let long = enough_lent one other cells terms in
+    (result ≡ says) × (cells' ≡ work_left long cells) × (terms' ≡ work_left long terms)
 
 -- two lists in words, with work memory of these lengths
 unfoldable pub words_reply : ℕ → List ℕ → List ℕ → ℕ → ℕ → Reply

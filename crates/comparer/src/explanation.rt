@@ -4,7 +4,7 @@ ghost use Rattle.model.specs.Memory.{list_words, work_left};
 ghost use Rattle.unroller.specs.OriginReply.{origin_reply, source_says};
 ghost use Rattle.comparer.specs.Answers.{reply_says};
 ghost use Rattle.reader.specs.Field.{little_endian};
-ghost use Rattle.comparer.specs.Entry.{enough_lent, left_in, right_in};
+ghost use Rattle.comparer.specs.Entry.{EntryAnswers, left_in, right_in};
 ghost use Rattle.comparer.specs.Explain.{plain, explanation, input_masked_explanation, input_explanation};
 ghost use Rattle.comparer.specs.ExplainAnswers.{chosen_says, chosen_of, answer_says, explanation_says, answer_by, explanation_by, replied_by, list_left, IsPart};
 
@@ -106,12 +106,9 @@ pub fn explain(
     cells: &mut [u32],
     terms: &mut [u32],
 ) -> Explanation
-    ensures { let long = enough_lent left_list.old right_list.old cells.old terms.old in
-        (explanation_says result ≡ explanation long mask (chosen_says side) left.now right.now)
-        × (left_list.new ≡ work_left long left_list.old)
-        × (right_list.new ≡ work_left long right_list.old)
-        × (cells.new ≡ work_left long cells.old)
-        × (terms.new ≡ work_left long terms.old) }
+    ensures { EntryAnswers (explanation_says result) (λ long. explanation long mask (chosen_says side) left.now right.now)
+        left_list.old right_list.old cells.old terms.old
+        left_list.new right_list.new cells.new terms.new }
 {
     let reply = compare_programs_masked(left, right, mask, left_list, right_list, cells, terms);
     replied(reply, left, right, side, left_list)
@@ -170,12 +167,9 @@ pub fn explain_input(
     cells: &mut [u32],
     terms: &mut [u32],
 ) -> Explanation
-    ensures { let long = enough_lent left_list.old right_list.old cells.old terms.old in
-        (explanation_says result ≡ input_explanation long (chosen_says side) input.now)
-        × (left_list.new ≡ work_left long left_list.old)
-        × (right_list.new ≡ work_left long right_list.old)
-        × (cells.new ≡ work_left long cells.old)
-        × (terms.new ≡ work_left long terms.old) }
+    ensures { EntryAnswers (explanation_says result) (λ long. input_explanation long (chosen_says side) input.now)
+        left_list.old right_list.old cells.old terms.old
+        left_list.new right_list.new cells.new terms.new }
 {
     let reply = compare_input(input, left_list, right_list, cells, terms);
     framed(reply, input, side, left_list)
@@ -191,12 +185,9 @@ pub fn explain_input_masked(
     cells: &mut [u32],
     terms: &mut [u32],
 ) -> Explanation
-    ensures { let long = enough_lent left_list.old right_list.old cells.old terms.old in
-        (explanation_says result ≡ input_masked_explanation long mask (chosen_says side) input.now)
-        × (left_list.new ≡ work_left long left_list.old)
-        × (right_list.new ≡ work_left long right_list.old)
-        × (cells.new ≡ work_left long cells.old)
-        × (terms.new ≡ work_left long terms.old) }
+    ensures { EntryAnswers (explanation_says result) (λ long. input_masked_explanation long mask (chosen_says side) input.now)
+        left_list.old right_list.old cells.old terms.old
+        left_list.new right_list.new cells.new terms.new }
 {
     let reply = compare_input_masked(input, mask, left_list, right_list, cells, terms);
     framed(reply, input, side, left_list)

@@ -1,10 +1,10 @@
 // Two lists in words: questions 25 and 26, then 22 to 24.
 ghost use Rattle.std.specs.Prelude.{◌≡◌, true, ◌≤◌, length};
-ghost use Rattle.model.specs.Memory.{work_left, list_words};
+ghost use Rattle.model.specs.Memory.{list_words};
 ghost use Rattle.unroller.specs.Decode.{decode, accepted};
 ghost use Rattle.comparer.specs.Answers.{reply_says};
 ghost use Rattle.comparer.specs.Asked.{Asked};
-ghost use Rattle.comparer.specs.Entry.{enough, enough_lent, decoded_reply, words_reply};
+ghost use Rattle.comparer.specs.Entry.{ListsAnswer, enough, enough_lent, decoded_reply, words_reply};
 ghost use Rattle.comparer.specs.Headers.{Counted};
 
 use crate::compare::match_lists;
@@ -71,10 +71,8 @@ pub fn compare_lists(
     cells: &mut [u32],
     terms: &mut [u32],
 ) -> Reply
-    ensures { let long = enough_lent left.now right.now cells.old terms.old in
-        (reply_says result ≡ words_reply mask left.now right.now (length cells.old) (length terms.old))
-        × (cells.new ≡ work_left long cells.old)
-        × (terms.new ≡ work_left long terms.old) }
+    ensures { ListsAnswer (reply_says result) (words_reply mask left.now right.now (length cells.old) (length terms.old))
+        left.now right.now cells.old terms.old cells.new terms.new }
 {
     if !long_enough(left.len(), right.len(), cells.len(), terms.len()) {
         return Reply::Refused(Side::Both, 25, 0);

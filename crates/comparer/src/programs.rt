@@ -13,13 +13,13 @@ use unroller::{Unrolled, unroll};
 const ALL_BITS: u16 = 65535;
 
 ghost use Rattle.std.specs.Prelude.{◌≡◌, true, ◌≤◌, length};
-ghost use Rattle.model.specs.Memory.{cleared, list_words, work_left};
+ghost use Rattle.model.specs.Memory.{cleared, list_words};
 ghost use Rattle.comparer.specs.Answers.{reply_says};
 ghost use Rattle.comparer.specs.Headers.{Counted};
 ghost use Rattle.comparer.specs.Laying.{Lays, Ended, mask_by, Masks};
 ghost use Rattle.model.specs.Reply.{refused, input};
 ghost use Rattle.comparer.specs.BatchSteps.{body_reply};
-ghost use Rattle.comparer.specs.Entry.{enough_lent, entry_reply, programs_by, programs_reply, plain_reply, input_by, input_masked, input_reply};
+ghost use Rattle.comparer.specs.Entry.{EntryAnswers, enough_lent, entry_reply, programs_by, programs_reply, plain_reply, input_by, input_masked, input_reply};
 
 // The mask of a comparison: as a caller gives it, or the bits of the out arrays.
 #[derive(Clone, Copy)]
@@ -97,12 +97,9 @@ fn programs_reply(
     cells: &mut [u32],
     terms: &mut [u32],
 ) -> Reply
-    ensures { let long = enough_lent left_list.old right_list.old cells.old terms.old in
-        (reply_says result ≡ entry_reply long (programs_by (mask_by mask) left.now right.now))
-        × (left_list.new ≡ work_left long left_list.old)
-        × (right_list.new ≡ work_left long right_list.old)
-        × (cells.new ≡ work_left long cells.old)
-        × (terms.new ≡ work_left long terms.old) }
+    ensures { EntryAnswers (reply_says result) (λ long. entry_reply long (programs_by (mask_by mask) left.now right.now))
+        left_list.old right_list.old cells.old terms.old
+        left_list.new right_list.new cells.new terms.new }
 {
     if !long_enough(left_list.len(), right_list.len(), cells.len(), terms.len()) {
         return Reply::Refused(Side::Both, 25, 0);
@@ -122,12 +119,9 @@ pub fn compare_programs_masked(
     cells: &mut [u32],
     terms: &mut [u32],
 ) -> Reply
-    ensures { let long = enough_lent left_list.old right_list.old cells.old terms.old in
-        (reply_says result ≡ entry_reply long (programs_reply mask left.now right.now))
-        × (left_list.new ≡ work_left long left_list.old)
-        × (right_list.new ≡ work_left long right_list.old)
-        × (cells.new ≡ work_left long cells.old)
-        × (terms.new ≡ work_left long terms.old) }
+    ensures { EntryAnswers (reply_says result) (λ long. entry_reply long (programs_reply mask left.now right.now))
+        left_list.old right_list.old cells.old terms.old
+        left_list.new right_list.new cells.new terms.new }
 {
     let given = Mask::Given(mask);
     programs_reply(left, right, given, left_list, right_list, cells, terms)
@@ -142,12 +136,9 @@ pub fn compare_programs(
     cells: &mut [u32],
     terms: &mut [u32],
 ) -> Reply
-    ensures { let long = enough_lent left_list.old right_list.old cells.old terms.old in
-        (reply_says result ≡ entry_reply long (plain_reply left.now right.now))
-        × (left_list.new ≡ work_left long left_list.old)
-        × (right_list.new ≡ work_left long right_list.old)
-        × (cells.new ≡ work_left long cells.old)
-        × (terms.new ≡ work_left long terms.old) }
+    ensures { EntryAnswers (reply_says result) (λ long. entry_reply long (plain_reply left.now right.now))
+        left_list.old right_list.old cells.old terms.old
+        left_list.new right_list.new cells.new terms.new }
 {
     programs_reply(left, right, Mask::Outs, left_list, right_list, cells, terms)
 }
@@ -207,12 +198,9 @@ fn input_reply(
     cells: &mut [u32],
     terms: &mut [u32],
 ) -> Reply
-    ensures { let long = enough_lent left_list.old right_list.old cells.old terms.old in
-        (reply_says result ≡ entry_reply long (input_by (mask_by mask) input.now))
-        × (left_list.new ≡ work_left long left_list.old)
-        × (right_list.new ≡ work_left long right_list.old)
-        × (cells.new ≡ work_left long cells.old)
-        × (terms.new ≡ work_left long terms.old) }
+    ensures { EntryAnswers (reply_says result) (λ long. entry_reply long (input_by (mask_by mask) input.now))
+        left_list.old right_list.old cells.old terms.old
+        left_list.new right_list.new cells.new terms.new }
 {
     if !long_enough(left_list.len(), right_list.len(), cells.len(), terms.len()) {
         return Reply::Refused(Side::Both, 25, 0);
@@ -230,12 +218,9 @@ pub fn compare_input(
     cells: &mut [u32],
     terms: &mut [u32],
 ) -> Reply
-    ensures { let long = enough_lent left_list.old right_list.old cells.old terms.old in
-        (reply_says result ≡ entry_reply long (input_reply input.now))
-        × (left_list.new ≡ work_left long left_list.old)
-        × (right_list.new ≡ work_left long right_list.old)
-        × (cells.new ≡ work_left long cells.old)
-        × (terms.new ≡ work_left long terms.old) }
+    ensures { EntryAnswers (reply_says result) (λ long. entry_reply long (input_reply input.now))
+        left_list.old right_list.old cells.old terms.old
+        left_list.new right_list.new cells.new terms.new }
 {
     input_reply(input, Mask::Outs, left_list, right_list, cells, terms)
 }
@@ -249,12 +234,9 @@ pub fn compare_input_masked(
     cells: &mut [u32],
     terms: &mut [u32],
 ) -> Reply
-    ensures { let long = enough_lent left_list.old right_list.old cells.old terms.old in
-        (reply_says result ≡ entry_reply long (input_masked mask input.now))
-        × (left_list.new ≡ work_left long left_list.old)
-        × (right_list.new ≡ work_left long right_list.old)
-        × (cells.new ≡ work_left long cells.old)
-        × (terms.new ≡ work_left long terms.old) }
+    ensures { EntryAnswers (reply_says result) (λ long. entry_reply long (input_masked mask input.now))
+        left_list.old right_list.old cells.old terms.old
+        left_list.new right_list.new cells.new terms.new }
 {
     input_reply(
         input,
@@ -273,12 +255,9 @@ fn cut_reply(
     cells: &mut [u32],
     terms: &mut [u32],
 ) -> Reply
-    ensures { let long = enough_lent left_list.old right_list.old cells.old terms.old in
-        (reply_says result ≡ entry_reply long (refused input 1 0))
-        × (left_list.new ≡ work_left long left_list.old)
-        × (right_list.new ≡ work_left long right_list.old)
-        × (cells.new ≡ work_left long cells.old)
-        × (terms.new ≡ work_left long terms.old) }
+    ensures { EntryAnswers (reply_says result) (λ long. entry_reply long (refused input 1 0))
+        left_list.old right_list.old cells.old terms.old
+        left_list.new right_list.new cells.new terms.new }
 {
     if !long_enough(left_list.len(), right_list.len(), cells.len(), terms.len()) {
         return Reply::Refused(Side::Both, 25, 0);
@@ -298,12 +277,9 @@ pub fn compare_pair(
     cells: &mut [u32],
     terms: &mut [u32],
 ) -> Reply
-    ensures { let long = enough_lent left_list.old right_list.old cells.old terms.old in
-        (reply_says result ≡ entry_reply long (body_reply left right body.now))
-        × (left_list.new ≡ work_left long left_list.old)
-        × (right_list.new ≡ work_left long right_list.old)
-        × (cells.new ≡ work_left long cells.old)
-        × (terms.new ≡ work_left long terms.old) }
+    ensures { EntryAnswers (reply_says result) (λ long. entry_reply long (body_reply left right body.now))
+        left_list.old right_list.old cells.old terms.old
+        left_list.new right_list.new cells.new terms.new }
 {
     if !pair_whole(body.len(), left, right) {
         return cut_reply(left_list, right_list, cells, terms);

@@ -16,7 +16,7 @@ returns-in_err-left c =
     let p = err_from_is_err_and c.from_residual.result c.from_residual.ensures.1 in
     let e = c.in_err-left.ensures.err in
     ap lengths_says (p.1 ∙ ap Err (p.2 ∙ e.0))
-    ∙ four_bytes c.args.bytes.now _ _ _ (omega (arith, c.if-bytes-lt-LENGTHS_BYTES.false)) c.pair.ensures refl (left_long _ _ e.1)
+    ∙ four_bytes c.args.bytes.now c.pair.result _ _ (omega (arith, c.if-bytes-lt-LENGTHS_BYTES.false)) (omega (arith, c.pair.ensures)) refl (left_long _ _ e.1)
 
 pub returns-in_err-right : goal.returns-in_err-right
 returns-in_err-right c =
@@ -24,10 +24,10 @@ returns-in_err-right c =
     let l = c.in_ok-left.ensures.ok in
     let e = c.in_err-right.ensures.err in
     ap lengths_says (p.1 ∙ ap Err (p.2 ∙ e.0))
-    ∙ four_bytes c.args.bytes.now _ _ _ (omega (arith, c.if-bytes-lt-LENGTHS_BYTES.false)) c.pair.ensures c.pair-2.ensures (right_long _ _ l.1 e.1)
+    ∙ four_bytes c.args.bytes.now c.pair.result c.pair-2.result _ (omega (arith, c.if-bytes-lt-LENGTHS_BYTES.false)) (omega (arith, c.pair.ensures)) (omega (arith, c.pair-2.ensures)) (right_long _ _ l.1 e.1)
 
 pub returns : goal.returns
 returns c =
     let l = c.in_ok-left.ensures.ok in
     let r = c.in_ok-right.ensures.ok in
-    four_bytes c.args.bytes.now _ _ _ (omega (arith, c.if-bytes-lt-LENGTHS_BYTES.false)) (l.0 ∙ c.pair.ensures) (r.0 ∙ c.pair-2.ensures) (both_fit _ _ (omega (arith, l.0, l.1)) (omega (arith, r.0, r.1)))
+    four_bytes c.args.bytes.now c.in_ok-left.left c.in_ok-right.right _ (omega (arith, c.if-bytes-lt-LENGTHS_BYTES.false)) (omega (arith, l.0, c.pair.ensures)) (omega (arith, r.0, c.pair-2.ensures)) (both_fit _ _ (omega (arith, l.0, l.1)) (omega (arith, r.0, r.1)))
