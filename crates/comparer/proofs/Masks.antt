@@ -15,8 +15,7 @@ use Rattle.comparer.specs.Match.{out_bits}
 use Rattle.comparer.specs.Asked.{Held}
 use Rattle.comparer.specs.Headers.{bits_from}
 use Rattle.comparer.specs.Laying.{mask_by, Masks}
-use Rattle.comparer.specs.declared.programs.Mask.{Mask}
-use Rattle.comparer.specs.declared.programs.Mask.TheVariants as mask
+use Rattle.std.specs.Prelude.{Option, Some, None}
 use Rattle.comparer.proofs.ListEntries.{held_heads}
 
 -- the bits of n arrays are below 2 ^ n
@@ -74,19 +73,19 @@ bits_are list k (x ∷ xs) h =
     next : (i : ℕ) → i < length xs → get_or list (18 + 5 * (suc k + i)) 0 ≡ (array_at xs i).role
     next i l = let z : k + suc i ≡ suc k + i = omega arith in subst (λ (a : ℕ). get_or list (18 + 5 * a) 0 ≡ (array_at xs i).role) z (h (suc i) (omega arith))
 
-pub masks_given : (m : Mask) (bits : ℕ) (words : List ℕ) → m ≡ mask.Given bits → Masks m words bits
+pub masks_given : (m : Option ℕ) (bits : ℕ) (words : List ℕ) → m ≡ Some bits → Masks m words bits
 unfolding Masks
-masks_given m bits words e l h = sym (ap (λ (m : Mask). mask_by m l) e)
+masks_given m bits words e l h = sym (ap (λ (m : Option ℕ). mask_by m l) e)
 
-pub masks_outs : (m : Mask) (bits : ℕ) (words : List ℕ) → m ≡ mask.Outs → bits ≡ bits_from words 0 (get_or words 17 0) → Masks m words bits
+pub masks_outs : (m : Option ℕ) (bits : ℕ) (words : List ℕ) → m ≡ None → bits ≡ bits_from words 0 (get_or words 17 0) → Masks m words bits
 unfolding Masks
 masks_outs m bits words o e l h =
     let H = (held_heads h).header in
-    e ∙ ap (bits_from words 0) H.count ∙ bits_are words 0 l.tables.arrays (λ i j. first i ∙ (H.array i j).role) ∙ sym (ap (λ (m : Mask). mask_by m l) o)
+    e ∙ ap (bits_from words 0) H.count ∙ bits_are words 0 l.tables.arrays (λ i j. first i ∙ (H.array i j).role) ∙ sym (ap (λ (m : Option ℕ). mask_by m l) o)
   where
     first : (i : ℕ) → get_or words (18 + 5 * (0 + i)) 0 ≡ get_or words (18 + 5 * i) 0
     first i = let z : 0 + i ≡ i = omega arith in ap (λ (a : ℕ). get_or words (18 + 5 * a) 0) z
 
-pub masks_are : (m : Mask) (words : List ℕ) (bits : ℕ) → Masks m words bits → (l : Listed) → Held words l → bits ≡ mask_by m l
+pub masks_are : (m : Option ℕ) (words : List ℕ) (bits : ℕ) → Masks m words bits → (l : Listed) → Held words l → bits ≡ mask_by m l
 unfolding Masks
 masks_are m words bits e = e

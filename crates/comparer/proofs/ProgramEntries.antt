@@ -24,7 +24,8 @@ use Rattle.comparer.specs.Asked.{Held, Room, Asked}
 use Rattle.comparer.specs.Laying.{Lays, Ended}
 use Rattle.comparer.specs.Entry.{entry_reply, programs_by, input_by}
 use Rattle.comparer.specs.Headers.{Counted}
-use Rattle.comparer.specs.declared.programs.Laid.TheVariants as laid
+use Rattle.std.specs.Prelude.{Ok, Err}
+use Rattle.comparer.specs.declared.programs.Refusal.{Refusal}
 use Rattle.comparer.specs.declared.reply.Reply.{Reply}
 use Rattle.comparer.proofs.ListEntries.{decoded_held, held-counted}
 use Rattle.comparer.proofs.Clearing.{ended-layout, ended-zeros}
@@ -39,7 +40,7 @@ module _ (program list : List ℕ) (h : list_words ≤ length list) where
   unfolding unroll_leaves
   leaves_is l e = rw (le-leb list_words (length list) h, e)
 
-  pub lays_out : (n : ℕ) (words : List ℕ) → ((i : ℕ) → get_or program i 0 < 256) → Unroll.updates n ≡ unroll_reply program (length list) → words ≡ unroll_leaves program list → Lays program words laid.Out
+  pub lays_out : (n : ℕ) (words : List ℕ) → ((i : ℕ) → get_or program i 0 < 256) → Unroll.updates n ≡ unroll_reply program (length list) → words ≡ unroll_leaves program list → Lays program words (Ok tt)
   unfolding Lays
   lays_out n words b e w = by (unrolled program) refl (e ∙ reply_is)
     where
@@ -47,7 +48,7 @@ module _ (program list : List ℕ) (h : list_words ≤ length list) where
       by (ok l) f g = (l, f, decoded_held words l (ap decode (w ∙ leaves_is l f) ∙ decode-layout l (length list) (unrolled-allowed program l b f)))
       by (stop question place) f g = absurd (let z : ◌≡◌ {A = ℕ} 0 1 = cc in omega arith)
 
-  pub lays_not : (question place : ℕ) (s : model.Side) (words : List ℕ) → Unroll.refused s question place ≡ unroll_reply program (length list) → Lays program words (laid.Not question place)
+  pub lays_not : (question place : ℕ) (s : model.Side) (words : List ℕ) → Unroll.refused s question place ≡ unroll_reply program (length list) → Lays program words (Err (record { question = question; place = place }))
   unfolding Lays
   lays_not question place s words e = by (unrolled program) refl (e ∙ reply_is)
     where
@@ -68,21 +69,21 @@ ended-cleared list words h w = subst Ended (sym w) (ended-zeros (length list) (o
 
 -- two programs
 module _ (left right : List ℕ) (mask : Listed → ℕ) where
-  pub left_not : (question place : ℕ) (words : List ℕ) → Lays left words (laid.Not question place) → model.refused model.left question place ≡ programs_by mask left right
+  pub left_not : (refusal : Refusal) (words : List ℕ) → Lays left words (Err refusal) → model.refused model.left refusal.question refusal.place ≡ programs_by mask left right
   unfolding Lays programs_by
-  left_not question place words e = rw e
+  left_not refusal words e = rw e
 
-  pub right_not : (question place : ℕ) (one other : List ℕ) → Lays left one laid.Out → Lays right other (laid.Not question place) → model.refused model.right question place ≡ programs_by mask left right
+  pub right_not : (refusal : Refusal) (one other : List ℕ) → Lays left one (Ok tt) → Lays right other (Err refusal) → model.refused model.right refusal.question refusal.place ≡ programs_by mask left right
   unfolding Lays programs_by
-  right_not question place one other (l, e, h) f = rw (e, f)
+  right_not refusal one other (l, e, h) f = rw (e, f)
 
   -- the code's mask k is that of the left's list
-  pub both_out : (one other cells terms : List ℕ) (r : Reply) (k : ℕ) → Lays left one laid.Out → Lays right other laid.Out → Room cells terms
+  pub both_out : (one other cells terms : List ℕ) (r : Reply) (k : ℕ) → Lays left one (Ok tt) → Lays right other (Ok tt) → Room cells terms
       → ((l : Listed) → Held one l → k ≡ mask l) → Asked one other k cells terms r → reply_says r ≡ programs_by mask left right
   unfolding Lays Asked programs_by
   both_out one other cells terms r k (x, e, h) (y, f, g) room is a = rw (e, f) (a x y h g room ∙ ap (λ (n : ℕ). lists_reply n x y) (is x h))
 
-pub lays_counted : (program words : List ℕ) → Lays program words laid.Out → Counted words
+pub lays_counted : (program words : List ℕ) → Lays program words (Ok tt) → Counted words
 unfolding Lays
 lays_counted program words (l, e, h) = held-counted h
 

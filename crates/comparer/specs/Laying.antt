@@ -1,28 +1,25 @@
 -- What becomes of a program: its list in the lent slice, or a refusal; and the mask that its list gives.
-use Rattle.std.specs.Prelude.{ℕ, ◌+◌, ◌*◌, ◌≤◌, ◌≡◌, List, ◌++◌, length, get_or, drop, replicate}
+use Rattle.std.specs.Prelude.{ℕ, ◌+◌, ◌*◌, ◌≤◌, ◌≡◌, List, ◌++◌, length, get_or, drop, replicate, Option, Some, None, Result, Ok, Err}
 use Rattle.model.specs.Update.{Listed}
 use Rattle.unroller.specs.Run.{ok, stop}
 use Rattle.unroller.specs.Unroll.{unrolled}
 use Rattle.comparer.specs.Entry.{out_mask}
 use Rattle.comparer.specs.Asked.{Held}
-use Rattle.comparer.specs.declared.programs.Laid.{Laid}
-use Rattle.comparer.specs.declared.programs.Laid.TheVariants as laid
-use Rattle.comparer.specs.declared.programs.Mask.{Mask}
-use Rattle.comparer.specs.declared.programs.Mask.TheVariants as mask
+use Rattle.comparer.specs.declared.programs.Refusal.{Refusal}
 
 -- the mask of a comparison, as the left's list tells it
-abbrev pub mask_by : Mask → Listed → ℕ
-mask_by (mask.Given bits) = λ l. bits
-mask_by mask.Outs = out_mask
+abbrev pub mask_by : Option ℕ → Listed → ℕ
+mask_by (Some bits) = λ l. bits
+mask_by None = out_mask
 
 -- so the code finds it in the list's words
-unfoldable pub Masks : Mask → List ℕ → ℕ → Type 0
+unfoldable pub Masks : Option ℕ → List ℕ → ℕ → Type 0
 Masks m words bits = (l : Listed) → Held words l → bits ≡ mask_by m l
 
 -- a program's list stands in the slice, or the program is refused
-unfoldable pub Lays : List ℕ → List ℕ → Laid → Type 0
-Lays program words laid.Out = (l : Listed) × (unrolled program ≡ ok l) × Held words l
-Lays program words (laid.Not question place) = unrolled program ≡ stop question place
+unfoldable pub Lays : List ℕ → List ℕ → Result (Unit {0}) Refusal → Type 0
+Lays program words (Ok done) = (l : Listed) × (unrolled program ≡ ok l) × Held words l
+Lays program words (Err refusal) = unrolled program ≡ stop refusal.question refusal.place
 
 -- A list as the unroller leaves it, laid out or empty: zeros stand behind a record that begins with 0, and behind the longest list.
 pub record Ended (words : List ℕ) : Type 0 where

@@ -21,40 +21,36 @@ ghost use Rattle.model.specs.Reply.{refused, input};
 ghost use Rattle.comparer.specs.BatchSteps.{body_reply};
 ghost use Rattle.comparer.specs.Entry.{EntryAnswers, enough_lent, entry_reply, programs_by, programs_reply, plain_reply, input_by, input_masked, input_reply};
 
-// The mask of a comparison: as a caller gives it, or the bits of the out arrays.
-#[derive(Clone, Copy)]
-pub(crate) enum Mask {
-    Given(u16),
-    Outs,
-}
-
-// Of the left's list.
-fn mask_of(mask: Mask, list: &[u32]) -> u16
+// The mask as a caller gives it; where none is given, the bits of the out arrays of the left's list.
+fn mask_of(mask: Option<u16>, list: &[u32]) -> u16
     requires { Counted list.now }
     ensures { Masks mask list.now result }
 {
     match mask {
-        Mask::Given(bits) => bits,
-        Mask::Outs => out_bits(list),
+        Some(bits) => bits,
+        None => out_bits(list),
     }
 }
 
-// A program's list is laid out, or question and place of its refusal.
-#[derive(Clone, Copy)]
-pub(crate) enum Laid {
-    Out,
-    Not(u8, usize),
+// Question and place of a program's refusal.
+#[derive(Clone, Copy, Debug, PartialEq, Eq)]
+pub(crate) struct Refusal {
+    pub(crate) question: u8,
+    pub(crate) place: usize,
 }
 
-fn lay_out(program: &[u8], list: &mut [u32]) -> Laid
+fn lay_out(program: &[u8], list: &mut [u32]) -> Result<(), Refusal>
     requires { list_words ≤ length list.old }
     ensures lays { Lays program.now list.new result }
     ensures ended { Ended list.new }
 {
     match unroll(program, list) {
-        Unrolled::Updates(_) => Laid::Out,
-        Unrolled::Refused(k, p) => Laid::Not(k, p),
-        Unrolled::Short => Laid::Not(25, 0),
+        Unrolled::Updates(_) => Ok(()),
+        Unrolled::Refused(question, place) => Err(Refusal { question, place }),
+        Unrolled::Short => Err(Refusal {
+            question: 25,
+            place: 0,
+        }),
     }
 }
 
@@ -62,7 +58,7 @@ fn lay_out(program: &[u8], list: &mut [u32]) -> Laid
 fn unrolled_reply(
     left: &[u8],
     right: &[u8],
-    mask: Mask,
+    mask: Option<u16>,
     left_list: &mut [u32],
     right_list: &mut [u32],
     cells: &mut [u32],
@@ -72,26 +68,22 @@ fn unrolled_reply(
     ensures result_value { reply_says result ≡ programs_by (mask_by mask) left.now right.now }
     ensures ended { Ended left_list.new × Ended right_list.new }
 {
-    match lay_out(left, left_list) {
-        Laid::Not(k, p) => {
-            clear(right_list);
-            Reply::Refused(Side::Left, k, p)
-        }
-        Laid::Out => match lay_out(right, right_list) {
-            Laid::Not(k, p) => Reply::Refused(Side::Right, k, p),
-            Laid::Out => {
-                let bits = mask_of(mask, left_list);
-                compared(left_list, right_list, bits, cells, terms)
-            }
-        },
+    if let Err(refusal) = lay_out(left, left_list) {
+        clear(right_list);
+        return Reply::Refused(Side::Left, refusal.question, refusal.place);
     }
+    if let Err(refusal) = lay_out(right, right_list) {
+        return Reply::Refused(Side::Right, refusal.question, refusal.place);
+    }
+    let bits = mask_of(mask, left_list);
+    compared(left_list, right_list, bits, cells, terms)
 }
 
 // After 25; work memory is cleared behind it.
 fn programs_reply(
     left: &[u8],
     right: &[u8],
-    mask: Mask,
+    mask: Option<u16>,
     left_list: &mut [u32],
     right_list: &mut [u32],
     cells: &mut [u32],
@@ -123,8 +115,7 @@ pub fn compare_programs_masked(
         left_list.old right_list.old cells.old terms.old
         left_list.new right_list.new cells.new terms.new }
 {
-    let given = Mask::Given(mask);
-    programs_reply(left, right, given, left_list, right_list, cells, terms)
+    programs_reply(left, right, Some(mask), left_list, right_list, cells, terms)
 }
 
 // In the out arrays.
@@ -140,7 +131,7 @@ pub fn compare_programs(
         left_list.old right_list.old cells.old terms.old
         left_list.new right_list.new cells.new terms.new }
 {
-    programs_reply(left, right, Mask::Outs, left_list, right_list, cells, terms)
+    programs_reply(left, right, None, left_list, right_list, cells, terms)
 }
 
 // A refusal before any program is read.
@@ -157,7 +148,7 @@ fn unframed(reply: Reply, left_list: &mut [u32], right_list: &mut [u32]) -> Repl
 // The left's length in two bytes, the left, and the right up to the end.
 fn framed_reply(
     input: &[u8],
-    mask: Mask,
+    mask: Option<u16>,
     left_list: &mut [u32],
     right_list: &mut [u32],
     cells: &mut [u32],
@@ -192,7 +183,7 @@ fn framed_reply(
 // After 25; work memory is cleared behind it.
 fn input_reply(
     input: &[u8],
-    mask: Mask,
+    mask: Option<u16>,
     left_list: &mut [u32],
     right_list: &mut [u32],
     cells: &mut [u32],
@@ -222,7 +213,7 @@ pub fn compare_input(
         left_list.old right_list.old cells.old terms.old
         left_list.new right_list.new cells.new terms.new }
 {
-    input_reply(input, Mask::Outs, left_list, right_list, cells, terms)
+    input_reply(input, None, left_list, right_list, cells, terms)
 }
 
 // The same, in the out and inout arrays whose bit of the mask is set.
@@ -238,14 +229,7 @@ pub fn compare_input_masked(
         left_list.old right_list.old cells.old terms.old
         left_list.new right_list.new cells.new terms.new }
 {
-    input_reply(
-        input,
-        Mask::Given(mask),
-        left_list,
-        right_list,
-        cells,
-        terms,
-    )
+    input_reply(input, Some(mask), left_list, right_list, cells, terms)
 }
 
 // One of many pairs whose bytes are cut.
