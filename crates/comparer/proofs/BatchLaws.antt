@@ -1,15 +1,12 @@
--- What the functions over one of many pairs answer.
-use Prim.Native.Nat.{ℕ, ◌+◌, ◌-◌, ◌*◌, ◌≤◌, ◌<◌}
+-- What the lengths of one of many pairs say.
+use Prim.Native.Nat.{ℕ, ◌+◌, ◌*◌, ◌≤◌, ◌<◌}
 use native.Mathlib.Omega.{arith}
 use mathlib.Core.Path.{◌≡◌, refl}
 use mathlib.Core.List.{List, [], ◌∷◌}
-use mathlib.Core.Bool.{Bool, true, false}
-use lib.ListN.{length, get_or, take, drop}
-use borrow.Author.Tests.{lt-leb, le-leb, leb-true}
+use lib.ListN.{length, get_or}
+use borrow.Author.Tests.{lt-leb, le-leb}
 use Rattle.model.specs.Reply as model
-use Rattle.comparer.specs.Entry.{programs_reply, all_bits, entry_reply}
 use Rattle.comparer.specs.Batch.{Lengths, ended, last, sizes, sized, lengths_of}
-use Rattle.comparer.specs.BatchSteps.{is_whole, body_reply}
 
 -- the two lengths
 module _ (l r : ℕ) where
@@ -40,19 +37,3 @@ four_bytes (b ∷ s) l r x h e f g =
     let p : get_or (b ∷ s) 0 0 + 256 * (get_or (b ∷ s) 1 0 + 256 * 0) ≡ l = omega arith in
     let q : get_or (b ∷ s) 2 0 + 256 * (get_or (b ∷ s) 3 0 + 256 * 0) ≡ r = omega arith in
     rw (le-leb 4 (length (b ∷ s)) h, p, q) g
-
--- what they say, after 25
-module _ (l r : ℕ) (s : List ℕ) where
-  pub cut-body : (long : Bool) (x : model.Reply) → is_whole (length s) l r ≡ false → x ≡ entry_reply long (model.refused model.input 1 0) → x ≡ entry_reply long (body_reply l r s)
-  cut-body long x e f = rw e f
-
-  -- the parts as they are lent: from 0 to l, and from there to the end
-  pub whole-body : (long : Bool) (end : ℕ) (x : model.Reply) → is_whole (length s) l r ≡ true → end ≡ l + r
-      → x ≡ entry_reply long (programs_reply all_bits (take (l - 0) (drop 0 s)) (take (end - l) (drop l s))) → x ≡ entry_reply long (body_reply l r s)
-  whole-body long end x e g f =
-      let p : l - 0 ≡ l = omega arith in
-      let q : end - l ≡ r = omega arith in
-      rw e (rw (p, q) at f)
-
-  pub whole_room : is_whole (length s) l r ≡ true → l + r ≤ length s
-  whole_room e = leb-true (l + r) (length s) e

@@ -1,28 +1,25 @@
 -- From the comparison's reply, and what is told of an element, to the explanation.
 use mathlib.Core.Path.{◌≡◌, refl, sym, ap, ◌∙◌}
-use Prim.Native.Nat.{ℕ, zero, suc, ◌+◌, ◌-◌, ◌≤◌, ◌<◌}
+use Prim.Native.Nat.{ℕ, ◌≤◌}
 use native.Mathlib.Omega.{arith}
-use mathlib.Core.List.{List, [], ◌∷◌}
+use mathlib.Core.List.{List}
 use mathlib.Core.Bool.{Bool, true, false, ◌&&◌}
 use mathlib.Core.Option.{Option, none, some}
-use lib.ListN.{length, take, drop, replicate, length-replicate, length-drop}
-use lib.Seq.{drop-drop, take_all}
+use lib.ListN.{length, replicate, length-replicate}
 use lib.Dec.{leb}
 use borrow.Author.Tests.{le-leb, leb-true}
 use Rattle.model.specs.Update.{Listed}
 use Rattle.model.specs.Memory.{list_words, cell_words, term_words, work_left}
 use Rattle.model.specs.Reply.{Reply, equal, differs, refused, left, right, is_refused}
-use Rattle.reader.specs.Field.{little_endian}
 use Rattle.unroller.specs.Run.{Ran, ok, stop}
 use Rattle.unroller.specs.Unroll.{unrolled}
 use Rattle.unroller.specs.Executed.{Origin, origin_of}
-use Rattle.unroller.specs.OriginReply.{Told, told, origin_reply, source_says, origin_says}
-use Rattle.unroller.specs.declared.origins.Origin.{Origin as Found}
+use Rattle.unroller.specs.OriginReply.{told, origin_reply}
 use Rattle.unroller.proofs.Parts.{both}
 use Rattle.comparer.specs.Match.{lists_reply}
 use Rattle.comparer.specs.Entry.{enough_lent, entry_reply, side_reply, programs_by, programs_reply, left_in, right_in, input_by}
-use Rattle.comparer.specs.Explain.{Chosen, left_side, right_side, chosen, Answer, Explanation, explained, by_reply, explanation, input_explanation_by}
-use Rattle.comparer.specs.ExplainAnswers.{answer_by, explanation_by, replied_by, list_left}
+use Rattle.comparer.specs.Explain.{Chosen, left_side, right_side, chosen, explained, by_reply, explanation, input_explanation_by}
+use Rattle.comparer.specs.ExplainAnswers.{explanation_by, replied_by, list_left}
 use Rattle.comparer.proofs.Input.{unrefused}
 
 -- a "differs" comes of two programs that unroll
@@ -48,11 +45,6 @@ origin-told s x a e n u h = rw (le-leb 32768 n h, u) refl
 told-explained : (a e : ℕ) (o : Option Origin) → explanation_by a e (told o) ≡ explained a e o
 told-explained a e none = refl
 told-explained a e (some o) = refl
-
--- the code's answer for an element of one program, by what the unroller found
-pub traced-says : (o : Found) (a e : ℕ) (t : Told) (x : Answer) → x ≡ answer_by a e (source_says o.source) → origin_says o ≡ t
-    → ◌≡◌ {A = Explanation} (record { answer = x; from = o.from; to = o.to; count = o.count; indices = o.indices }) (explanation_by a e t)
-traced-says o a e t x p q = ap (λ (x : Answer). record { answer = x; from = o.from; to = o.to; count = o.count; indices = o.indices }) p ∙ ap (explanation_by a e) q
 
 pub long-list : (one other cells terms : List ℕ) → enough_lent one other cells terms ≡ true → list_words ≤ length one
 long-list one other cells terms h =
@@ -113,37 +105,3 @@ module _ (long : Bool) (mask : Listed → ℕ) (side : Chosen) (s : List ℕ) (q
 
   pub input-leaves : list_left q list₁ ≡ work_left long list
   input-leaves = reply-leaves long (input_by mask s) (chosen side (left_in s) (right_in s)) (input-unrolls mask side s) q says list list₁ lists room
-
-drop_all : (n : ℕ) (l : List ℕ) → length l ≤ n → drop n l ≡ []
-drop_all zero [] h = refl
-drop_all zero (x ∷ l) h = absurd (omega arith)
-drop_all (suc n) [] h = refl
-drop_all (suc n) (x ∷ l) h = drop_all n l (omega arith)
-
--- the parts of framed input, as they are lent
-module _ (s : List ℕ) where
-  few-behind : length s < 2 → drop 2 s ≡ []
-  few-behind h = drop_all 2 s (omega arith)
-
-  pub left_none : length s < 2 → take (0 - 0) (drop 0 s) ≡ left_in s
-  left_none h = rw (few-behind h) (sym (take_all (little_endian 2 s 0) [] (omega arith)))
-
-  pub right_none : length s < 2 → take (0 - 0) (drop 0 s) ≡ right_in s
-  right_none h = rw (few-behind h) (sym (drop_all (little_endian 2 s 0) [] (omega arith)))
-
-  module _ (end : ℕ) (is : end ≡ 2 + little_endian 2 s 0) where
-    pub left_cut : length s < end → take (length s - 2) (drop 2 s) ≡ left_in s
-    left_cut h =
-        let n = length-drop 2 s in
-        take_all (length s - 2) (drop 2 s) (omega arith) ∙ sym (take_all (little_endian 2 s 0) (drop 2 s) (omega arith))
-
-    pub right_cut : length s < end → take (0 - 0) (drop 0 s) ≡ right_in s
-    right_cut h = let n = length-drop 2 s in sym (drop_all (little_endian 2 s 0) (drop 2 s) (omega arith))
-
-    pub left_whole : take (end - 2) (drop 2 s) ≡ left_in s
-    left_whole = let e : end - 2 ≡ little_endian 2 s 0 = omega arith in ap (λ (n : ℕ). take n (drop 2 s)) e
-
-    pub right_whole : take (length s - end) (drop end s) ≡ right_in s
-    right_whole =
-        let o = length-drop end s in
-        take_all (length s - end) (drop end s) (omega arith) ∙ ap (λ (n : ℕ). drop n s) is ∙ sym (drop-drop (little_endian 2 s 0) 2 s)

@@ -3,13 +3,12 @@ use Prim.Native.Nat.{ℕ, ◌+◌, ◌-◌, ◌*◌, ◌≤◌, ◌<◌}
 use native.Mathlib.Omega.{arith}
 use mathlib.Core.Path.{◌≡◌, refl, sym, ap, subst, ◌∙◌}
 use mathlib.Core.List.{List}
-use mathlib.Core.Bool.{Bool, true, false}
 use lib.ListN.{length, get_or, take, drop, length-drop}
 use lib.Seq.{drop-drop, take_all}
 use borrow.Author.Tests.{lt-leb, le-leb}
 use Rattle.model.specs.Update.{Listed}
 use Rattle.model.specs.Reply as model
-use Rattle.model.specs.Memory.{list_words, cleared}
+use Rattle.model.specs.Memory.{list_words}
 use Rattle.reader.specs.Field.{little_endian}
 use Rattle.unroller.specs.Run.{Ran, ok, stop}
 use Rattle.unroller.specs.Layout.{layout}
@@ -22,7 +21,7 @@ use Rattle.comparer.specs.Match.{lists_reply}
 use Rattle.comparer.specs.Answers.{reply_says}
 use Rattle.comparer.specs.Asked.{Held, Room, Asked}
 use Rattle.comparer.specs.Laying.{Lays, Ended}
-use Rattle.comparer.specs.Entry.{entry_reply, programs_by, input_by}
+use Rattle.comparer.specs.Entry.{programs_by, input_by}
 use Rattle.comparer.specs.Headers.{Counted}
 use Rattle.std.specs.Prelude.{Ok, Err}
 use Rattle.comparer.specs.declared.programs.Refusal.{Refusal}
@@ -64,9 +63,6 @@ module _ (program list : List ℕ) (h : list_words ≤ length list) where
       by (ok l) f = subst Ended (sym (leaves_is l f)) (ended-layout l (length list) (omega arith) (unrolled-allowed program l b f))
       by (stop question place) f = rw (le-leb list_words (length list) h, f) (ended-zeros (length list) (omega arith))
 
-pub ended-cleared : (list words : List ℕ) → list_words ≤ length list → words ≡ cleared list → Ended words
-ended-cleared list words h w = subst Ended (sym w) (ended-zeros (length list) (omega arith))
-
 -- two programs
 module _ (left right : List ℕ) (mask : Listed → ℕ) where
   pub left_not : (refusal : Refusal) (words : List ℕ) → Lays left words (Err refusal) → model.refused model.left refusal.question refusal.place ≡ programs_by mask left right
@@ -86,13 +82,6 @@ module _ (left right : List ℕ) (mask : Listed → ℕ) where
 pub lays_counted : (program words : List ℕ) → Lays program words (Ok tt) → Counted words
 unfolding Lays
 lays_counted program words (l, e, h) = held-counted h
-
--- an entry, after 25
-pub entry_short : (b : Bool) (r : model.Reply) → b ≡ false → model.refused model.both 25 0 ≡ entry_reply b r
-entry_short b r e = rw e
-
-pub entry_long : (b : Bool) (r s : model.Reply) → b ≡ true → s ≡ r → s ≡ entry_reply b r
-entry_long b r s e f = rw e f
 
 -- framed input
 module _ (mask : Listed → ℕ) (s : List ℕ) where

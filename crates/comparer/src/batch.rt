@@ -32,7 +32,7 @@ pub struct Totals {
     pub elements: usize,
 }
 
-fn program_length(side: Side, stated: u16) -> Result<usize, LengthsError>
+pub(crate) fn program_length(side: Side, stated: u16) -> Result<usize, LengthsError>
     ensures ok { IfOk result (λ n. (n ≡ stated) × (stated ≤ 16384)) }
     ensures err { IfErr result (λ e. (e ≡ record { side = side; number = 2 }) × (16384 < stated)) }
 {

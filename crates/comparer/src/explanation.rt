@@ -1,20 +1,19 @@
 // The explanation of a difference: the stretch of the left or the right program's bytes that wrote the element last.
-ghost use Rattle.std.specs.Prelude.{◌≡◌, length, leb, ◌+◌, ◌≤◌};
+ghost use Rattle.std.specs.Prelude.{◌≡◌, length, leb};
 ghost use Rattle.model.specs.Memory.{list_words, work_left};
 ghost use Rattle.unroller.specs.OriginReply.{origin_reply, source_says};
 ghost use Rattle.comparer.specs.Answers.{reply_says};
-ghost use Rattle.reader.specs.Field.{little_endian};
 ghost use Rattle.comparer.specs.Entry.{EntryAnswers, left_in, right_in};
 ghost use Rattle.comparer.specs.Explain.{plain, explanation, input_masked_explanation, input_explanation};
 ghost use Rattle.comparer.specs.ExplainAnswers.{chosen_says, chosen_of, answer_says, explanation_says, answer_by, explanation_by, replied_by, list_left, IsPart};
 
 use crate::programs::{compare_input, compare_input_masked, compare_programs_masked};
 use crate::reply::{Reply, Side};
-use model::byte::wide;
+use reader::fields::pair;
 use unroller::{Source, origin_of};
 
 // The side that a caller asks about.
-#[derive(Clone, Copy)]
+#[derive(Clone, Copy, Debug, PartialEq, Eq)]
 pub enum Chosen {
     Left,
     Right,
@@ -22,7 +21,7 @@ pub enum Chosen {
 
 // A statement wrote the element, of which array and cell number are given; that side never wrote it; or side, question's number
 // and place.
-#[derive(Clone, Copy)]
+#[derive(Clone, Copy, Debug, PartialEq, Eq)]
 pub enum Answer {
     Written(usize, usize),
     Starting(usize, usize),
@@ -31,7 +30,7 @@ pub enum Answer {
 
 // The stretch is from `from` up to `to` in the chosen program's bytes, and the first `count` of the index values are the update's,
 // outermost first; all are 0 where no statement wrote the element.
-#[derive(Clone, Copy)]
+#[derive(Clone, Copy, Debug, PartialEq, Eq)]
 pub struct Explanation {
     pub answer: Answer,
     pub from: usize,
@@ -114,47 +113,23 @@ pub fn explain(
     replied(reply, left, right, side, left_list)
 }
 
-// Where the left of a framed input ends, as stated.
-fn left_end(input: &[u8]) -> usize
-    requires { 2 ≤ length input.now }
-    ensures { result ≡ 2 + little_endian 2 input.now 0 }
-{
-    2 + (wide(input[0]) + 256 * wide(input[1]))
-}
-
 // The two programs of a framed input, as far as they are there.
-fn left_in(input: &[u8]) -> &[u8]
-    ensures { result.now ≡ left_in input.now }
+fn parts_in(input: &[u8]) -> (&[u8], &[u8])
+    ensures { (result.0.now ≡ left_in input.now) × (result.1.now ≡ right_in input.now) }
 {
     if input.len() < 2 {
-        return &input[0..0];
+        return (&input[0..0], &input[0..0]);
     }
-    let end = left_end(input);
-    if input.len() < end {
-        return &input[2..];
-    }
-    &input[2..end]
-}
-
-fn right_in(input: &[u8]) -> &[u8]
-    ensures { result.now ≡ right_in input.now }
-{
-    if input.len() < 2 {
-        return &input[0..0];
-    }
-    let end = left_end(input);
-    if input.len() < end {
-        return &input[0..0];
-    }
-    &input[end..]
+    let length = usize::from(pair(input[0], input[1]));
+    let rest = &input[2..];
+    rest.split_at(length.min(rest.len()))
 }
 
 fn framed(reply: Reply, input: &[u8], side: Chosen, list: &mut [u32]) -> Explanation
     ensures says { explanation_says result ≡ replied_by (reply_says reply) (λ a e. origin_reply (chosen_of side (left_in input.now) (right_in input.now)) a e (length list.old)) }
     ensures leaves { list.new ≡ list_left (reply_says reply) list.old }
 {
-    let left = left_in(input);
-    let right = right_in(input);
+    let (left, right) = parts_in(input);
     replied(reply, left, right, side, list)
 }
 

@@ -1,23 +1,23 @@
 // Two programs, both in one framed input, or one of many pairs: question 1, then 2 to 20 of each, then 22 to 24.
-use crate::batch::pair_whole;
+use crate::batch::{LengthsError, lengths_reply, pair_whole, program_length};
 use crate::lists::{compared, long_enough};
 use crate::memory::clear_used;
 use crate::reply::{Reply, Side};
 use crate::tables::out_bits;
-use model::byte::wide;
 use model::memory::clear;
-use model::sizes::MOST_BYTES;
+use reader::fields::pair;
 use unroller::{Unrolled, unroll};
 
 // The mask of many pairs.
 const ALL_BITS: u16 = 65535;
 
-ghost use Rattle.std.specs.Prelude.{◌≡◌, true, ◌≤◌, length};
+ghost use Rattle.std.specs.Prelude.{◌≡◌, ℕ, true, ◌≤◌, length, IfOk, IfErr};
 ghost use Rattle.model.specs.Memory.{cleared, list_words};
-ghost use Rattle.comparer.specs.Answers.{reply_says};
+ghost use Rattle.comparer.specs.Answers.{side_says, reply_says};
 ghost use Rattle.comparer.specs.Headers.{Counted};
 ghost use Rattle.comparer.specs.Laying.{Lays, Ended, mask_by, Masks};
 ghost use Rattle.model.specs.Reply.{refused, input};
+ghost use Rattle.model.specs.Update.{Listed};
 ghost use Rattle.comparer.specs.BatchSteps.{body_reply};
 ghost use Rattle.comparer.specs.Entry.{EntryAnswers, enough_lent, entry_reply, programs_by, programs_reply, plain_reply, input_by, input_masked, input_reply};
 
@@ -145,7 +145,26 @@ fn unframed(reply: Reply, left_list: &mut [u32], right_list: &mut [u32]) -> Repl
     reply
 }
 
-// The left's length in two bytes, the left, and the right up to the end.
+// The two programs of a framed input: the left's length in two bytes, the left, and the right up to the end.
+fn programs_in(input: &[u8]) -> Result<(&[u8], &[u8]), LengthsError>
+    ensures ok { IfOk result (λ programs. (mask : Listed → ℕ) → programs_by mask programs.0.now programs.1.now ≡ input_by mask input.now) }
+    ensures err { IfErr result (λ e. (mask : Listed → ℕ) → refused (side_says e.side) e.number 0 ≡ input_by mask input.now) }
+{
+    let cut = LengthsError {
+        side: Side::Input,
+        number: 1,
+    };
+    if input.len() < 2 {
+        return Err(cut);
+    }
+    let length = program_length(Side::Left, pair(input[0], input[1]))?;
+    let end = 2 + length;
+    if input.len() < end {
+        return Err(cut);
+    }
+    Ok((&input[2..end], &input[end..]))
+}
+
 fn framed_reply(
     input: &[u8],
     mask: Option<u16>,
@@ -158,26 +177,12 @@ fn framed_reply(
     ensures result_value { reply_says result ≡ input_by (mask_by mask) input.now }
     ensures ended { Ended left_list.new × Ended right_list.new }
 {
-    if input.len() < 2 {
-        return unframed(Reply::Refused(Side::Input, 1, 0), left_list, right_list);
+    match programs_in(input) {
+        Ok((left, right)) => {
+            unrolled_reply(left, right, mask, left_list, right_list, cells, terms)
+        }
+        Err(e) => unframed(lengths_reply(e.side, e.number), left_list, right_list),
     }
-    let n = wide(input[0]) + 256 * wide(input[1]);
-    if MOST_BYTES < n {
-        return unframed(Reply::Refused(Side::Left, 2, 0), left_list, right_list);
-    }
-    let end = 2 + n;
-    if input.len() < end {
-        return unframed(Reply::Refused(Side::Input, 1, 0), left_list, right_list);
-    }
-    unrolled_reply(
-        &input[2..end],
-        &input[end..],
-        mask,
-        left_list,
-        right_list,
-        cells,
-        terms,
-    )
 }
 
 // After 25; work memory is cleared behind it.

@@ -5,17 +5,5 @@ use Rattle.comparer.specs.ExplainAnswers.{chosen_says}
 use Rattle.comparer.proofs.Explains.{input-says, input-leaves, long-list}
 use Rattle.comparer.proofs.explanation.explain_input_masked.Goals as goal
 
-pub shape_of-left_list : goal.shape_of-left_list
-shape_of-left_list c = c.framed.auto.list ∙ c.compare_input_masked-reply.auto.left_list
-
-pub shape_of-right_list : goal.shape_of-right_list
-shape_of-right_list c = c.compare_input_masked-reply.auto.right_list
-
-pub shape_of-cells : goal.shape_of-cells
-shape_of-cells c = c.compare_input_masked-reply.auto.cells
-
-pub shape_of-terms : goal.shape_of-terms
-shape_of-terms c = c.compare_input_masked-reply.auto.terms
-
 pub returns : goal.returns
 returns c = let a = c.args in let m = c.compare_input_masked-reply.ensures in let r = c.framed.ensures in let long = enough_lent a.left_list.now a.right_list.now a.cells.now a.terms.now in (r.says ∙ input-says long (λ x. a.mask) (chosen_says a.side) a.input.now (reply_says c.compare_input_masked-reply.result) m.0 a.left_list.now c.compare_input_masked-reply.new.left_list m.1 (λ h. long-list a.left_list.now a.right_list.now a.cells.now a.terms.now h), r.leaves ∙ input-leaves long (λ x. a.mask) (chosen_says a.side) a.input.now (reply_says c.compare_input_masked-reply.result) m.0 a.left_list.now c.compare_input_masked-reply.new.left_list m.1 (λ h. long-list a.left_list.now a.right_list.now a.cells.now a.terms.now h), m.2, m.3, m.4)
