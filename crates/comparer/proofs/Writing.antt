@@ -2,11 +2,12 @@
 use Prim.Native.Nat.{ℕ, zero, suc, ◌+◌, ◌-◌, ◌*◌, ◌/◌, ◌%◌, ◌≤◌, ◌<◌, min}
 use native.Mathlib.Omega.{arith}
 use native.Mathlib.Numerals.{add-one}
-use mathlib.Core.Path.{◌≡◌, refl, sym, ◌∙◌, subst}
+use mathlib.Core.Path.{◌≡◌, refl, sym, ap₂, ◌∙◌, subst}
 use mathlib.Core.List.{List, [], ◌∷◌, ◌++◌, append-nil, append_assoc}
 use mathlib.Core.Bool.{Bool, true, false, false≢true}
 use lib.ListN.{length, get_or, take, set, replicate, length-append}
-use lib.Seq.{set-append_seam, take-append_seam, take-suc, take-length}
+use Rattle.std.proofs.lemmas.List.{get_or-take}
+use lib.Seq.{set-append_seam, take-append_seam, take-suc}
 use lib.Dec.{ltb}
 use lib.IntN.{ℤ, pos, negsuc, nat_abs}
 use lib.Signed.{lt_z}
@@ -64,9 +65,6 @@ adds_more line mid r xs ys a b t h k =
 module _ (line : Line) (s : List ℕ) where
   pub text_more : (mid r : Line) (i : ℕ) → i < length s → Adds line (take i s) mid → Adds mid (get_or s i 0 ∷ []) r → Adds line (take (i + 1) s) r
   text_more mid r i h a b = rw (add-one, take-suc s i 0 h) (adds_more line mid r (take i s) (get_or s i 0 ∷ []) a b)
-
-  pub text_all : (r : Line) (i : ℕ) → i ≤ length s → length s ≤ i → Adds line (take i s) r → Adds line s r
-  text_all r i h k a = let e : i ≡ length s = omega arith in rw (e, take-length) at a
 
 -- one digit
 pub number_last : (line r : Line) (n b : ℕ) → n < 10 → Adds line (b ∷ []) r → b ≡ 48 + n → AddsNumber line n r
@@ -139,6 +137,14 @@ indices-length (suc n) is =
     let k = signed-length (get_or is n (pos 0)) in
     let e = length-append (spaced_first n is) (spaced (signed (get_or is n (pos 0)))) in
     omega arith
+
+first-taken : (n m : ℕ) (is : List ℤ) → n ≤ m → spaced_first n (take m is) ≡ spaced_first n is
+first-taken zero m is h = refl
+first-taken (suc n) m is h = ap₂ (λ (l : List ℕ) (z : ℤ). l ++ spaced (signed z)) (first-taken n m is (omega arith)) (get_or-take m is n (pos 0) (omega arith))
+
+-- the values that count, as a slice
+pub values_counted : (n : ℕ) (is values : List ℤ) → values ≡ take n is → length values ≡ n → spaced_first (length values) values ≡ spaced_first n is
+values_counted n is values e l = ap₂ spaced_first l e ∙ first-taken n n is (omega arith)
 
 pub few-indices : (count : ℕ) (is : List ℤ) → length (spaced_first (min count 8) is) ≤ 56
 few-indices count is = let h = indices-length (min count 8) is in omega arith

@@ -1,5 +1,5 @@
 // The explanation of a difference: the stretch of the left or the right program's bytes that wrote the element last.
-ghost use Rattle.std.specs.Prelude.{◌≡◌, length, leb};
+ghost use Rattle.std.specs.Prelude.{◌≡◌, length, leb, min, take};
 ghost use Rattle.model.specs.Memory.{list_words, work_left};
 ghost use Rattle.unroller.specs.OriginReply.{origin_reply, source_says};
 ghost use Rattle.comparer.specs.Answers.{reply_says};
@@ -37,6 +37,16 @@ pub struct Explanation {
     pub to: usize,
     pub count: usize,
     pub indices: [i16; 8],
+}
+
+impl Explanation {
+    // The index values that count: an array of fixed size and a count, since there is no heap.
+    pub(crate) fn values(&self) -> &[i16]
+        ensures values { result.now ≡ take (min self.now.count 8) self.now.indices }
+        ensures count { length result.now ≡ min self.now.count 8 }
+    {
+        &self.indices[..self.count.min(8)]
+    }
 }
 
 fn no_stretch(answer: Answer) -> Explanation

@@ -1,5 +1,5 @@
 // The lines that the programs print: of a reply, of an explanation, and of the totals over many pairs.
-ghost use Rattle.std.specs.Prelude.{◌≡◌, ◌∷◌, [], ◌++◌, min};
+ghost use Rattle.std.specs.Prelude.{◌≡◌, ◌∷◌, [], ◌++◌, take, length};
 ghost use Rattle.comparer.specs.Answers.{side_says, reply_says};
 ghost use Rattle.comparer.specs.Batch.{totals_line};
 ghost use Rattle.comparer.specs.ExplainAnswers.{explanation_says};
@@ -10,76 +10,109 @@ ghost use Rattle.comparer.specs.Writing.{Holds, Adds, AddsNumber, Begins};
 use crate::batch::Totals;
 use crate::explanation::{Answer, Explanation};
 use crate::reply::{Reply, Side};
-use model::numbers::{least, size};
 
 // The longest line, `written` with four numbers of 20 digits and eight of 6 characters, has 148.
 pub const LINE_BYTES: usize = 160;
 
 // Bytes up to `len`, zeros behind.
-#[derive(Clone, Copy)]
+#[derive(Clone, Copy, Debug, PartialEq, Eq)]
 pub struct Line {
     pub bytes: [u8; LINE_BYTES],
     pub len: usize,
 }
 
-fn no_text() -> Line
-    ensures { Holds result [] }
-{
-    Line {
-        bytes: [0u8; LINE_BYTES],
-        len: 0,
+impl Line {
+    fn new() -> Line
+        ensures { Holds result [] }
+    {
+        Line {
+            bytes: [0u8; LINE_BYTES],
+            len: 0,
+        }
     }
-}
 
-// A full line takes no more.
-fn put(line: Line, b: u8) -> Line
-    ensures { Adds line (b ∷ []) result }
-{
-    let mut out = line;
-    let at = line.len;
-    if at < LINE_BYTES {
-        out.bytes[at] = b;
-        out.len = at + 1;
+    // What is written so far. A line that says it is longer than its bytes has all of these.
+    pub fn as_bytes(&self) -> &[u8]
+        ensures { result.now ≡ take self.now.len self.now.bytes }
+    {
+        &self.bytes[..self.len.min(LINE_BYTES)]
     }
-    out
-}
 
-fn text(line: Line, s: &[u8]) -> Line
-    ensures { Adds line s.now result }
-{
-    let mut out = line;
-    let mut i: usize = 0;
-    while i < s.len() {
-        out = put(out, s[i]);
-        i += 1;
+    // A full line takes no more.
+    fn put(self, b: u8) -> Line
+        ensures { Adds self (b ∷ []) result }
+    {
+        let mut out = self;
+        if self.len < LINE_BYTES {
+            out.bytes[self.len] = b;
+            out.len = self.len + 1;
+        }
+        out
     }
-    out
-}
 
-// The digits of all but the last, then the last.
-fn number(line: Line, n: usize) -> Line
-    ensures { AddsNumber line n result }
-{
-    if n < 10 {
-        return put(line, 48 + n as u8);
+    fn text(self, s: &[u8]) -> Line
+        ensures { Adds self s.now result }
+    {
+        let mut out = self;
+        for &b in s {
+            out = out.put(b);
+        }
+        out
     }
-    put(number(line, n / 10), 48 + (n % 10) as u8)
-}
 
-fn spaced_number(line: Line, n: usize) -> Line
-    ensures { Adds line (spaced (decimal n)) result }
-{
-    number(put(line, 32), n)
-}
+    // The digits of all but the last, then the last.
+    fn number(self, n: usize) -> Line
+        ensures { AddsNumber self n result }
+    {
+        if n < 10 {
+            return self.put(48 + n as u8);
+        }
+        self.number(n / 10).put(48 + (n % 10) as u8)
+    }
 
-fn spaced_side(line: Line, side: Side) -> Line
-    ensures { Adds line (spaced (side_text (side_says side))) result }
-{
-    match side {
-        Side::Left => text(line, b" left"),
-        Side::Right => text(line, b" right"),
-        Side::Both => text(line, b" both"),
-        Side::Input => text(line, b" input"),
+    fn spaced_number(self, n: usize) -> Line
+        ensures { Adds self (spaced (decimal n)) result }
+    {
+        self.put(b' ').number(n)
+    }
+
+    fn spaced_side(self, side: Side) -> Line
+        ensures { Adds self (spaced (side_text (side_says side))) result }
+    {
+        match side {
+            Side::Left => self.text(b" left"),
+            Side::Right => self.text(b" right"),
+            Side::Both => self.text(b" both"),
+            Side::Input => self.text(b" input"),
+        }
+    }
+
+    fn spaced_signed(self, z: i16) -> Line
+        ensures { Adds self (spaced (signed z)) result }
+    {
+        let blank = self.put(b' ');
+        let size = usize::from(z.unsigned_abs());
+        if z < 0 {
+            return blank.put(b'-').number(size);
+        }
+        blank.number(size)
+    }
+
+    fn spaced_values(self, values: &[i16]) -> Line
+        ensures { Adds self (spaced_first (length values.now) values.now) result }
+    {
+        let mut out = self;
+        for &z in values {
+            out = out.spaced_signed(z);
+        }
+        out
+    }
+
+    // A word and a number.
+    fn labelled(self, word: &[u8], n: usize) -> Line
+        ensures { Adds self (word.now ++ spaced (decimal n)) result }
+    {
+        self.text(word).spaced_number(n)
     }
 }
 
@@ -87,13 +120,13 @@ fn spaced_side(line: Line, side: Side) -> Line
 fn words(reply: Reply) -> Line
     ensures { Begins result (line_of (reply_says reply)) }
 {
-    let empty = no_text();
+    let empty = Line::new();
     match reply {
-        Reply::Equal(n) => spaced_number(text(empty, b"equal"), n),
-        Reply::Differs(a, e) => spaced_number(spaced_number(text(empty, b"differs"), a), e),
+        Reply::Equal(n) => empty.text(b"equal").spaced_number(n),
+        Reply::Differs(a, e) => empty.text(b"differs").spaced_number(a).spaced_number(e),
         Reply::Refused(side, k, p) => {
-            let refused = spaced_side(text(empty, b"refused"), side);
-            spaced_number(spaced_number(refused, k as usize), p)
+            let refused = empty.text(b"refused").spaced_side(side);
+            refused.spaced_number(usize::from(k)).spaced_number(p)
         }
     }
 }
@@ -101,51 +134,27 @@ fn words(reply: Reply) -> Line
 pub fn line_of(reply: Reply) -> Line
     ensures { Holds result (line_of (reply_says reply)) }
 {
-    put(words(reply), 10)
-}
-
-fn spaced_signed(line: Line, z: i16) -> Line
-    ensures { Adds line (spaced (signed z)) result }
-{
-    let blank = put(line, 32);
-    if z < 0 {
-        return number(put(blank, 45), size(z));
-    }
-    number(blank, size(z))
-}
-
-// The first `count` of the eight.
-fn spaced_indices(line: Line, count: usize, indices: [i16; 8]) -> Line
-    ensures { Adds line (spaced_first (min count 8) indices) result }
-{
-    let n = least(count, 8);
-    let mut out = line;
-    let mut k: usize = 0;
-    while k < n {
-        out = spaced_signed(out, indices[k]);
-        k += 1;
-    }
-    out
+    words(reply).put(b'\n')
 }
 
 // Without its end.
 fn explanation_words(explanation: Explanation) -> Line
     ensures { Begins result (explanation_line (explanation_says explanation)) }
 {
-    let answer = explanation.answer;
-    let indices = explanation.indices;
-    match answer {
+    match explanation.answer {
         Answer::Written(a, e) => {
-            let array = spaced_number(text(no_text(), b"written"), a);
-            let element = spaced_number(array, e);
-            let start = spaced_number(element, explanation.from);
-            let stretch = spaced_number(start, explanation.to);
-            spaced_indices(stretch, explanation.count, indices)
+            let element = Line::new()
+                .text(b"written")
+                .spaced_number(a)
+                .spaced_number(e);
+            let start = element.spaced_number(explanation.from);
+            let stretch = start.spaced_number(explanation.to);
+            stretch.spaced_values(explanation.values())
         }
-        Answer::Starting(a, e) => {
-            let array = spaced_number(text(no_text(), b"starting"), a);
-            spaced_number(array, e)
-        }
+        Answer::Starting(a, e) => Line::new()
+            .text(b"starting")
+            .spaced_number(a)
+            .spaced_number(e),
         Answer::Refused(side, k, p) => words(Reply::Refused(side, k, p)),
     }
 }
@@ -153,29 +162,23 @@ fn explanation_words(explanation: Explanation) -> Line
 pub fn explanation_line(explanation: Explanation) -> Line
     ensures { Holds result (explanation_line (explanation_says explanation)) }
 {
-    put(explanation_words(explanation), 10)
-}
-
-// A word and a number.
-fn labelled(line: Line, s: &[u8], n: usize) -> Line
-    ensures { Adds line (s.now ++ spaced (decimal n)) result }
-{
-    spaced_number(text(line, s), n)
+    explanation_words(explanation).put(b'\n')
 }
 
 // Without its end.
 fn totals_words(totals: Totals) -> Line
     ensures { Begins result (totals_line totals) }
 {
-    let pairs = labelled(no_text(), b"pairs", totals.pairs);
-    let equal = labelled(pairs, b" equal", totals.equal);
-    let differs = labelled(equal, b" differs", totals.differs);
-    let refused = labelled(differs, b" refused", totals.refused);
-    labelled(refused, b" elements", totals.elements)
+    Line::new()
+        .labelled(b"pairs", totals.pairs)
+        .labelled(b" equal", totals.equal)
+        .labelled(b" differs", totals.differs)
+        .labelled(b" refused", totals.refused)
+        .labelled(b" elements", totals.elements)
 }
 
 pub fn totals_line(totals: Totals) -> Line
     ensures { Holds result (totals_line totals) }
 {
-    put(totals_words(totals), 10)
+    totals_words(totals).put(b'\n')
 }
