@@ -27,7 +27,6 @@ mod Masks
 mod BatchLaws
 pub mod Explains
 pub mod Explanations
-mod Stretches
 mod Slots
 mod Leaves
 mod Arguments

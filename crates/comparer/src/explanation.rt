@@ -29,7 +29,7 @@ pub enum Answer {
 }
 
 // The stretch is from `from` up to `to` in the chosen program's bytes, and the first `count` of the index values are the update's,
-// outermost first; all are 0 where no statement wrote the element.
+// outermost first; all are 0 where no statement wrote the element. There is no heap, so they are an array of fixed size and a count.
 #[derive(Clone, Copy, Debug, PartialEq, Eq)]
 pub struct Explanation {
     pub answer: Answer,
@@ -40,7 +40,7 @@ pub struct Explanation {
 }
 
 impl Explanation {
-    // The index values that count: an array of fixed size and a count, since there is no heap.
+    // Those that count.
     pub(crate) fn values(&self) -> &[i16]
         ensures values { result.now ≡ take (min self.now.count 8) self.now.indices }
         ensures count { length result.now ≡ min self.now.count 8 }
@@ -78,10 +78,9 @@ fn traced(program: &[u8], array: usize, cell: usize, list: &mut [u32]) -> Explan
     ensures leaves { list.new ≡ work_left (leb list_words (length list.old)) list.old }
 {
     let origin = origin_of(program, array, cell, list);
-    let source = origin.source;
     let indices = origin.indices;
     Explanation {
-        answer: answer_by(source, array, cell),
+        answer: answer_by(origin.source, array, cell),
         from: origin.from,
         to: origin.to,
         count: origin.count,
@@ -182,10 +181,7 @@ pub fn explain_input_masked(
 fn part(bytes: &[u8], from: usize, to: usize) -> &[u8]
     ensures { IsPart bytes.entry from to result }
 {
-    if to < from {
-        return &bytes[0..0];
-    }
-    if bytes.len() < to {
+    if to < from || bytes.len() < to {
         return &bytes[0..0];
     }
     &bytes[from..to]

@@ -14,7 +14,7 @@ use crate::reply::{Reply, Side};
 // The longest line, `written` with four numbers of 20 digits and eight of 6 characters, has 148.
 pub const LINE_BYTES: usize = 160;
 
-// Bytes up to `len`, zeros behind.
+// Bytes up to `len`, zeros behind: an array of fixed size and a length, since there is no heap.
 #[derive(Clone, Copy, Debug, PartialEq, Eq)]
 pub struct Line {
     pub bytes: [u8; LINE_BYTES],

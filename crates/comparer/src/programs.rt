@@ -1,4 +1,5 @@
 // Two programs, both in one framed input, or one of many pairs: question 1, then 2 to 20 of each, then 22 to 24.
+// Work memory is four slices and no struct of them: its fields have no names in a contract (`work.entry.1.1.0.now`).
 use crate::batch::{LengthsError, lengths_reply, pair_whole, program_length};
 use crate::lists::{compared, long_enough};
 use crate::memory::clear_used;
