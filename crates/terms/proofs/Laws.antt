@@ -1,15 +1,16 @@
 -- The laws of the store: what interning does where memory holds trees. No statement here names the mix.
-use Rattle.std.proofs.Common.{◌≡◌, ℕ, ◌+◌, ◌-◌, ◌<◌, ◌≤◌, Bool, true, false, ltb, ◌⊎◌, List, [], ◌∷◌, ◌++◌, length, take, sym, refl, ap, ◌∙◌, subst, inl, inr, ⊎_elim, true≢false, not-suc-le-zero, add-one, arith, length-append, length-take, below_more, ltb-false, ltb-true, lt-ltb, le-leb}
+use Rattle.std.proofs.Common.{◌≡◌, ℕ, ◌+◌, ◌-◌, ◌<◌, ◌≤◌, Bool, true, false, ltb, ◌⊎◌, List, [], ◌∷◌, ◌++◌, length, take, sym, refl, ap, ◌∙◌, subst, inl, inr, ⊎_elim, true≢false, not-suc-le-zero, add-one, arith, length-append, length-take, below_more, ltb-false, ltb-true, lt-ltb, le-leb, leb, leb-true, Option, Some, None, if◌then◌else◌}
 use native.Mathlib.Nat.{min-le_left}
 use lib.ListN.{get_or-append}
 use lib.Seq.{get_or_at, take-append-le, take-length}
-use Rattle.model.specs.Memory.{cleared}
+use Rattle.model.specs.Memory.{cleared, term_words}
 use Rattle.model.specs.Update.{Tree, Trees}
 use Rattle.model.specs.Update.Tree.{cell, operator}
 use Rattle.terms.specs.declared.Node.{Node}
 use Rattle.terms.specs.declared.Kept.{Kept}
 use Rattle.terms.specs.Term.{alike}
-use Rattle.terms.specs.Store.{Says, gives, refused, kept, node_of, node_at, args_of, eq_node, Out, out, intern_of, starts_at}
+use Rattle.terms.specs.Store.{Says, gives, refused, kept, node_of, node_at, args_of, eq_node, Out, out, find_of, head_at, appended, by_found, intern_of, starts_at}
+use Rattle.terms.specs.Mix.{bucket_of}
 use Rattle.terms.specs.Holds.{New, term}
 use Rattle.terms.specs.Stored.{In, tree, Ref, Arguments, Means, Known, Stored, Answered, Puts, Starts}
 use Rattle.terms.proofs.Alike.{alike_refl, alike_sym, alike_trans}
@@ -191,6 +192,33 @@ unfolding Puts
 puts m count kind payload ids answer m' e swaps ts t S T =
     subst (λ (o : Out). Answered swaps ts (t ∷ []) o.memory (λ (k : Kept). k.count) (λ (k : Kept) us. Ref swaps us k.id t) o.answer) (sym e)
     (interns swaps m count ts S (node_of kind payload ids) t T)
+
+-- no more terms than there is room for, whatever memory holds
+pub few : (m : List ℕ) (count : ℕ) (n : Node) (k : Kept) (m' : List ℕ) → out (gives k) m' ≡ intern_of m count n → k.count ≤ 4096
+unfolding intern_of
+few m count n k m' e = long (leb term_words (length m)) e
+  where
+    same : {a b : Kept} {l l' : List ℕ} → out (gives a) l ≡ out (gives b) l' → a.count ≡ b.count
+    same q = let z : ◌≡◌ {A = Says Kept} (gives _) (gives _) = ap (λ (o : Out). o.answer) q in cc
+
+    never : {a : Kept} {q : ℕ} {l l' : List ℕ} → out (gives a) l ≡ out (refused q) l' → ⊥
+    never q = let z : ◌≡◌ {A = Says Kept} (gives _) (refused _) = ap (λ (o : Out). o.answer) q in cc
+
+    room : (b : Bool) → ltb count 4096 ≡ b → out (gives k) m' ≡ (if b then out (gives (kept (count + 1) (count + 1))) (appended m count n) else out (refused 24) m) → k.count ≤ 4096
+    room true h q = let z = same q in let w = ltb-true count 4096 h in omega arith
+    room false h q = absurd (never q)
+
+    found : (f : Option ℕ) → leb count 4096 ≡ true → out (gives k) m' ≡ by_found m count n f → k.count ≤ 4096
+    found (Some r) h q = let z = same q in let w = leb-true count 4096 h in omega arith
+    found None h q = room (ltb count 4096) refl q
+
+    full : (b : Bool) → leb count 4096 ≡ b → out (gives k) m' ≡ (if b then by_found m count n (find_of m (head_at m (bucket_of n)) count n) else out (refused 24) m) → k.count ≤ 4096
+    full true h q = found _ h q
+    full false h q = absurd (never q)
+
+    long : (b : Bool) → out (gives k) m' ≡ (if b then (if leb count 4096 then by_found m count n (find_of m (head_at m (bucket_of n)) count n) else out (refused 24) m) else out (refused 25) m) → k.count ≤ 4096
+    long true q = full (leb count 4096) refl q
+    long false q = absurd (never q)
 
 -- what `is_start` promises, for trees
 module _ (m : List ℕ) (r a c : ℕ) (b : Bool) where
