@@ -14,16 +14,16 @@ use Rattle.terms.specs.Stored.{Ref, Starts}
 use Rattle.terms.proofs.Alike.{alike_sym, alike_same}
 use Rattle.terms.proofs.Members.{untrue}
 use Rattle.terms.specs.Store.{start_says, starts_at}
-use Rattle.terms.specs.declared.Start.{Start}
-use Rattle.terms.specs.declared.Start.TheVariants as start
+use Rattle.std.specs.Prelude.{Result, Ok, Err}
+use Rattle.std.specs.Result.{result_unwrap_or}
+use Rattle.terms.specs.declared.ShortMemory.{ShortMemory}
 use Rattle.terms.proofs.Laws.{same_id, starts, starts-short}
 use Rattle.comparer.specs.Comparing.{Agrees, BothGiven}
 
--- what is no start, or has no answer, is not alike
-pub starts-other : (m : List ℕ) (r a c : ℕ) (b : Start) → (b ≡ start.Yes → ⊥) → start_says b ≡ starts_at m r a c → Starts m r a c false
-starts-other m r a c start.Yes n e = absurd (n refl)
-starts-other m r a c start.No n e = starts m r a c false e
-starts-other m r a c start.Short n e = starts-short m r a c false e
+-- what has no answer is not alike
+pub starts_or : (m : List ℕ) (r a c : ℕ) (b : Result Bool ShortMemory) → start_says b ≡ starts_at m r a c → Starts m r a c (result_unwrap_or b false)
+starts_or m r a c (Ok b) e = starts m r a c b e
+starts_or m r a c (Err f) e = starts-short m r a c false e
 
 both_ways : (swaps : ℕ → Bool) (t u : Tree) → alike swaps t u ≡ alike swaps u t
 both_ways swaps t u = go (alike swaps t u) refl

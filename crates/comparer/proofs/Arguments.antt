@@ -16,13 +16,13 @@ use Rattle.model.specs.Update.{Tree, Trees}
 use Rattle.model.specs.Update.Tree.{cell, number, constant, operator}
 use Rattle.model.specs.Update.Trees.{nil, cons}
 use Rattle.terms.specs.Term.{alike, parts, parts_of}
-use Rattle.terms.specs.Stored.{In, Ref, Args, Means, Outcome, full, fine, sorted, Puts}
+use Rattle.terms.specs.Stored.{In, Ref, Args, Means, Outcome, full, fine, sorted}
 use Rattle.terms.specs.Store.{node_of}
 use Rattle.terms.proofs.Sorted.{Two, sorted-means}
 use Rattle.terms.proofs.Sets.{in_none, in_head, in_tail, in_cons, in_one, in_left, in_right, in_either, grown_none, grown_ref, over_more, after_grown, same_set, is_full, is_fine}
 use Rattle.unroller.specs.Stands.{many, TreeAt, TreesAt}
 use Rattle.comparer.specs.Meaning.{Content, value_of, values_of, free}
-use Rattle.comparer.specs.Work.{Operators, Picks, Byte, Arity, Holding, Ready, worked, Works, WorksAll}
+use Rattle.comparer.specs.Work.{Puts, Operators, Picks, Byte, Arity, Holding, Ready, worked, Works, WorksAll}
 use Rattle.comparer.proofs.Slots.{cells-on, outcome_on}
 
 -- ---- places

@@ -1,6 +1,7 @@
 -- What `read` and `leaf` answer.
 use mathlib.Core.Path.{◌≡◌, refl, sym, ap₂, subst, subst₂}
-use Rattle.std.specs.Prelude.{Option, None, Some}
+use Rattle.std.specs.Prelude.{Option, None, Some, Result, Ok, Err}
+use Rattle.std.specs.Result.{result_ok}
 use mathlib.Core.Logic.{⊎_elim}
 use mathlib.Core.Bool.{Bool}
 use mathlib.Core.List.{List, [], ◌∷◌}
@@ -11,13 +12,16 @@ use Rattle.model.specs.Tables.{swaps_at}
 use Rattle.model.specs.Update.{Tree}
 use Rattle.model.specs.Update.Tree.{cell, number, constant, operator}
 use Rattle.terms.specs.Term.{parts}
-use Rattle.terms.specs.Store.{node_of}
-use Rattle.terms.specs.Stored.{Ref, Means, Over, Outcome, full, fine, Puts}
+use Rattle.terms.specs.Store.{gives, refused, says_of, out, node_of, intern_of}
+use Rattle.terms.specs.declared.InternError.{InternError}
+use Rattle.terms.specs.declared.InternError.TheVariants.{Full, Short}
+use Rattle.terms.proofs.Laws.{few, puts}
+use Rattle.terms.specs.Stored.{Ref, Means, Stored, Over, Outcome, full, fine, Puts as Placed}
 use Rattle.terms.proofs.Sets.{closed, grown_none, ref_in, is_full}
 use Rattle.unroller.specs.Stands.{Proper, TreeAt}
 use Rattle.terms.specs.declared.Kept.{Kept}
 use Rattle.comparer.specs.Meaning.{Content, value_of, free}
-use Rattle.comparer.specs.Work.{Keeps, Finds, Shows, Holding, Ready, Reads, Works, WorksLeaf}
+use Rattle.comparer.specs.Work.{Puts, Keeps, Finds, Shows, Holding, Ready, Reads, Works, WorksLeaf}
 use Rattle.comparer.proofs.Slots.{slot_in, slot_is, slot_none, cells-on, holding_set, outcome_on}
 
 pub read_none : (table cells m : List ℕ) (count a c : ℕ) → Finds table a c None → (count' id : ℕ) (cells' m' : List ℕ) → Reads table cells m count a c count' id cells' m'
@@ -110,10 +114,16 @@ works_over table list left at cells m count at' count' id at1 id1 cells' cells1 
     full l (is_full (swaps_at ops) m' count' (λ us. (at' ≡ to) × Ref (swaps_at ops) us id (value_of free t h) × Holding (swaps_at ops) table bases cells' us h) ts (parts (value_of free t h)) l (W ops bases t to ts h O T R))
 
 -- ---- what `put` answers
-pub kept_none : (m : List ℕ) (count kind payload : ℕ) (ids : List ℕ) (r : Kept) (m' : List ℕ) → 4096 < r.count → Puts m count kind payload ids r.count r.id m'
-    → Puts m count kind payload ids 4097 0 m'
-unfolding Puts
-kept_none m count kind payload ids r m' l P swaps ts t S M = full (omega arith) (is_full swaps m' r.count (λ us. Ref swaps us r.id t) ts (t ∷ []) l (P swaps ts t S M))
+pub kept_some : (m : List ℕ) (count kind payload : ℕ) (ids : List ℕ) (r : Result Kept InternError) (m' : List ℕ) → out (says_of r) m' ≡ intern_of m count (node_of kind payload ids)
+    → Keeps (λ count' id. Puts m count kind payload ids count' id m') (result_ok r)
+unfolding Keeps Puts Placed
+kept_some m count kind payload ids (Ok k) m' e = (few m count (node_of kind payload ids) k m' e, λ swaps ts t S M. let a = puts m count kind payload ids (gives k) m' e swaps ts t S M in fine a.0 a.1 a.2 a.3)
+kept_some m count kind payload ids (Err f) m' e = λ swaps ts t S M. full (omega arith) (over f e swaps ts t S M)
+  where
+    over : (f : InternError) → out (says_of (Err f)) m' ≡ intern_of m count (node_of kind payload ids) → (swaps : ℕ → Bool) (ts : List Tree) (t : Tree) → Stored swaps m count ts
+        → Means swaps ts (node_of kind payload ids) t → Over swaps ts (t ∷ [])
+    over Full e swaps ts t S M = puts m count kind payload ids (refused 24) m' e swaps ts t S M
+    over Short e swaps ts t S M = puts m count kind payload ids (refused 25) m' e swaps ts t S M
 
 pub kept_as : (m : List ℕ) (count kind payload : ℕ) (ids stored : List ℕ) (m' : List ℕ) (r : Option Kept) → stored ≡ ids → Keeps (λ count' id. Puts m count kind payload stored count' id m') r
     → Keeps (λ count' id. Puts m count kind payload ids count' id m') r

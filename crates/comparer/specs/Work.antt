@@ -1,11 +1,12 @@
 -- Working out the updates of a list as terms of a store: what cells and store hold, and what each function does to them.
-use Rattle.std.specs.Prelude.{ℕ, ◌+◌, ◌≤◌, ◌<◌, ◌≡◌, ◌⊎◌, List, Option, None, Some, Bool, true, false, length, get_or}
+use Rattle.std.specs.Prelude.{ℕ, ◌+◌, ◌≤◌, ◌<◌, ◌≡◌, ◌⊎◌, List, [], ◌∷◌, Option, None, Some, Bool, true, false, length, get_or}
 use Rattle.model.specs.Tables.{arity_of, swaps_at}
 use Rattle.model.specs.Update.{Tree, Trees, Update}
 use Rattle.model.specs.Update.Tree.{cell}
 use Rattle.terms.specs.Term.{parts, parts_of, parts_of_all}
 use Rattle.terms.specs.declared.Kept.{Kept}
-use Rattle.terms.specs.Stored.{Ref, Args, Stored, Outcome}
+use Rattle.terms.specs.Store.{node_of}
+use Rattle.terms.specs.Stored.{Ref, Args, Means, Stored, Outcome}
 use Rattle.unroller.specs.Stands.{Proper, many, TreeAt, TreesAt, UpdatesAt}
 use Rattle.comparer.specs.declared.evaluate.Step.{Step}
 use Rattle.comparer.specs.Meaning.{Content, value_of, values_of, free, trees_of, after, values}
@@ -40,6 +41,12 @@ Counts P (Some count) = (count ≤ 4096) × P count
 unfoldable pub Keeps : (ℕ → ℕ → Type 0) → Option Kept → Type 0
 Keeps P None = P 4097 0
 Keeps P (Some k) = (k.count ≤ 4096) × P k.count k.id
+
+-- a node that is the tree t over those stored: t is stored, once
+unfoldable pub Puts : List ℕ → ℕ → ℕ → ℕ → List ℕ → ℕ → ℕ → List ℕ → Type 0
+Puts m count kind payload ids count' id m' =
+    (swaps : ℕ → Bool) (ts : List Tree) (t : Tree) → Stored swaps m count ts → Means swaps ts (node_of kind payload ids) t
+    → Outcome swaps ts (t ∷ []) m' count' (λ us. Ref swaps us id t)
 
 -- with a place, and an id or several
 unfoldable pub Steps : {A : Type 0} → (ℕ → ℕ → A → Type 0) → Option (Step A) → Type 0

@@ -8,7 +8,6 @@ ghost use Rattle.model.specs.Memory.{header_words};
 use crate::evaluate::apply_updates;
 use crate::reply::{Reply, Side};
 use model::sizes::{CELL_WORDS, HEADER_WORDS, MOST_CELLS};
-use terms::Start;
 
 fn role_of(list: &[u32], array: usize) -> u32
     requires { (header_words ≤ length list.now) × (array < 16) }
@@ -68,7 +67,7 @@ fn starts(terms: &[u32], id: u32, a: u32, c: u32) -> bool
     ensures { Starts terms.now id a c result }
 {
     // 25 is asked before; what it refuses must not pass for equal.
-    matches!(terms::is_start(terms, id, a, c), Start::Yes)
+    terms::is_start(terms, id, a, c).unwrap_or(false)
 }
 
 // Whether cell c of array a has the same term on both sides. A cell that is not written is its own starting cell, which is not stored for that.

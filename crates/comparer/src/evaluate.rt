@@ -1,12 +1,12 @@
 // Works out the updates of a list: each value as a term of the store.
 ghost use Rattle.std.specs.Prelude.{◌≡◌, ◌+◌, ◌≤◌, ◌<◌, length, replicate, true};
 ghost use Rattle.model.specs.Memory.{header_words};
-ghost use Rattle.terms.specs.Stored.{sorted, Puts};
+ghost use Rattle.terms.specs.Stored.{sorted};
 ghost use Rattle.model.specs.Tables.{swaps};
-ghost use Rattle.comparer.specs.Work.{Keeps, Steps, Counts, Finds, Picks, Byte, Arity, Reads, Works, WorksLeaf, WorksAll, Applies};
+ghost use Rattle.comparer.specs.Work.{Keeps, Puts, Steps, Counts, Finds, Picks, Byte, Arity, Reads, Works, WorksLeaf, WorksAll, Applies};
 
 use model::operator::swaps;
-use model::sizes::{CELL_WORDS, HEADER_WORDS, MOST_TERMS};
+use model::sizes::{CELL_WORDS, HEADER_WORDS};
 use terms::Kept;
 
 // The place past a tree, the number of terms, and the id plus 1; or past the arguments of an operator, with their four ids.
@@ -21,11 +21,7 @@ struct Step<T> {
 fn put(terms: &mut [u32], count: u32, kind: u32, payload: u32, ids: [u32; 4]) -> Option<Kept>
     ensures { Keeps (λ count' id. Puts terms.old count kind payload ids count' id terms.new) result }
 {
-    let kept = terms::put(terms, count, kind, payload, ids);
-    if kept.count > MOST_TERMS {
-        return None;
-    }
-    Some(kept)
+    terms::put(terms, count, kind, payload, ids).ok()
 }
 
 // The slot of a cell: the cells before its array, and its number.
