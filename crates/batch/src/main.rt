@@ -8,7 +8,7 @@ ghost use Rattle.source.specs.Within.{Within};
 use comparer::reply::Reply;
 use comparer::{LENGTHS_BYTES, Line, MOST_PAIRS, Totals};
 use model::sizes::{CELL_WORDS, LIST_WORDS, TERM_WORDS};
-use source::Got;
+use source::ReadFailed;
 use std::io::Read;
 
 // The bytes of the longest pair, behind its lengths.
@@ -86,11 +86,16 @@ fn turn(
 {
     let mut head = [0u8; LENGTHS_BYTES];
     match source::fill(input, &mut head) {
-        Got::Failed(_) => unread(rt),
-        Got::Bytes(n) => match comparer::pair_lengths(&head[0..n]) {
-            Ok(None) => Next::Last(totals),
-            Err(e) => answered(rt, totals, comparer::lengths_reply(e.side, e.number), false),
-            Ok(Some((l, r))) => behind(
+        Err(_) => unread(rt),
+        Ok(n) => match comparer::pair_lengths(&head[0..n]) {
+            Lengths::Ended => Next::Last(totals),
+            Lengths::Refused(side, number) => answered(
+                rt,
+                totals,
+                comparer::lengths_reply(side, number),
+                false,
+            ),
+            Lengths::Sizes(l, r) => behind(
                 rt, input, totals, l, r, body, left_list, right_list, cells, terms,
             ),
         },
@@ -98,7 +103,7 @@ fn turn(
 }
 
 // The next n bytes of the input.
-fn take(input: &mut impl Read, body: &mut [u8], n: usize) -> Got
+fn take(input: &mut impl Read, body: &mut [u8], n: usize) -> Result<usize, ReadFailed>
     requires { n ≤ length body.old }
     ensures { Within n result }
 {
@@ -121,8 +126,8 @@ fn behind(
     requires { (left ≤ 16384) × (right ≤ 16384) × (32768 ≤ length body.old) }
 {
     match take(input, body, left + right) {
-        Got::Failed(_) => unread(rt),
-        Got::Bytes(k) => {
+        Err(_) => unread(rt),
+        Ok(k) => {
             let reply = comparer::compare_pair(
                 &body[0..k],
                 left,

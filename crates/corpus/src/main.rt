@@ -4,7 +4,6 @@
 ghost use Rattle.std.specs.Prelude.{◌≤◌, length};
 
 use model::sizes::{CELL_WORDS, LIST_WORDS, TERM_WORDS};
-use source::Got;
 use std::io::Read;
 
 fn main(rt: HostRuntime) {
@@ -66,8 +65,8 @@ fn read_full(input: &mut impl Read, buf: &mut [u8]) -> usize
     ensures { result ≤ length buf.old }
 {
     match source::fill(input, buf) {
-        Got::Bytes(n) => n,
-        Got::Failed(n) => n,
+        Ok(n) => n,
+        Err(e) => e.read,
     }
 }
 

@@ -20,7 +20,6 @@ ghost use Rattle.std.specs.Prelude.{◌≤◌, length};
 use crate::numbers::{Args, number_at, number_of, refused};
 use model::byte::wide;
 use reader::tables::FLAT;
-use source::Got;
 use std::io::Read;
 
 fn main(rt: HostRuntime) {
@@ -65,8 +64,8 @@ fn read_full(input: &mut impl Read, buf: &mut [u8]) -> usize
     ensures { result ≤ length buf.old }
 {
     match source::fill(input, buf) {
-        Got::Bytes(n) => n,
-        Got::Failed(n) => n,
+        Ok(n) => n,
+        Err(e) => e.read,
     }
 }
 

@@ -7,16 +7,15 @@ use comparer::Chosen;
 use comparer::reply::Reply;
 use model::sizes::{CELL_WORDS, LIST_WORDS, TERM_WORDS};
 use reader::fields::pair;
-use source::Got;
 
 fn main(rt: HostRuntime) {
     let mut stdin = rt.stdin();
     let mut input = [0u8; 32773];
     match source::fill(&mut stdin, &mut input) {
-        Got::Bytes(n) => {
+        Ok(n) => {
             masked(&rt, &input[0..n]);
         }
-        Got::Failed(_) => {
+        Err(_) => {
             complain(&rt, "masked: a read of standard input failed");
         }
     }

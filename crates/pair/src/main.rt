@@ -3,16 +3,15 @@
 #![tactic(auto)]
 
 use model::sizes::{CELL_WORDS, LIST_WORDS, TERM_WORDS};
-use source::Got;
 
 fn main(rt: HostRuntime) {
     let mut stdin = rt.stdin();
     let mut input = [0u8; 32771];
     match source::fill(&mut stdin, &mut input) {
-        Got::Bytes(n) => {
+        Ok(n) => {
             answer(&rt, &input[0..n]);
         }
-        Got::Failed(_) => {
+        Err(_) => {
             complain(&rt, "pair: a read of standard input failed");
         }
     }

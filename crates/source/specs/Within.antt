@@ -1,8 +1,7 @@
 -- How many bytes of a slice of n were filled.
-use Rattle.std.specs.Prelude.{ℕ, ◌≤◌, ◌<◌}
-use Rattle.source.specs.declared.Got.{Got}
-use Rattle.source.specs.declared.Got.TheVariants.{Bytes, Failed}
+use Rattle.std.specs.Prelude.{ℕ, ◌≤◌, ◌<◌, Result, Ok, Err}
+use Rattle.source.specs.declared.ReadFailed.{ReadFailed}
 
-abbrev pub Within : ℕ → Got → Type 0
-Within n (Bytes k) = k ≤ n
-Within n (Failed k) = k < n
+abbrev pub Within : ℕ → Result ℕ ReadFailed → Type 0
+Within n (Ok k) = k ≤ n
+Within n (Err e) = e.read < n

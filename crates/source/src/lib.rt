@@ -12,33 +12,33 @@ use std::io::{ErrorKind, Read};
 #[cfg(test)]
 mod tests;
 
-// So many bytes stand at the start of the slice, fewer than it holds only where the input ended; or a read failed behind so many.
-#[derive(Clone, Copy)]
-pub enum Got {
-    Bytes(usize),
-    Failed(usize),
+// A read failed behind so many bytes.
+#[derive(Clone, Copy, Debug, PartialEq, Eq)]
+pub struct ReadFailed {
+    pub read: usize,
 }
 
 // How often one read is tried while signals interrupt it; then it has failed.
 const AGAIN: usize = 1000;
 
-// Reads until buf is full, the input ends or a read fails. Proved: the count lies within buf, and buf keeps its length; of a reader
-// that says which bytes it has left, that these are put into buf in their order, and that fewer than asked means that none is left.
-// Standard input does not say, and no contract tells that what is tried again was an interrupted read.
-pub fn fill<R: Read>(input: &mut R, buf: &mut [u8]) -> Got
+// Reads until buf is full, the input ends or a read fails: how many bytes stand at the start of buf, fewer than it holds only at the
+// end. Proved: the count lies within buf, and buf keeps its length; of a reader that says which bytes it has left, that these are put
+// into buf in their order, and that fewer than asked means that none is left. Standard input does not say, and no contract tells that
+// what is tried again was an interrupted read.
+pub fn fill<R: Read>(input: &mut R, buf: &mut [u8]) -> Result<usize, ReadFailed>
     ensures within { Within (length buf.old) result }
     ensures buf_len_unchanged { length buf.new ≡ length buf.old }
     ensures bytes { Filled (R.remaining input.old) (R.remaining input.new) buf.new result }
 {
-    let mut done: usize = 0;
+    let mut done = 0;
     while done < buf.len() {
         match read_again(input, &mut buf[done..]) {
-            Ok(0) => return Got::Bytes(done),
+            Ok(0) => return Ok(done),
             Ok(more) => done += more,
-            Err(_) => return Got::Failed(done),
+            Err(_) => return Err(ReadFailed { read: done }),
         }
     }
-    Got::Bytes(done)
+    Ok(done)
 }
 
 // One read, tried again while a signal interrupts it before a byte is there.
@@ -47,17 +47,13 @@ fn read_again<R: Read>(input: &mut R, buf: &mut [u8]) -> io::Result<usize>
     ensures buf_len_unchanged { length buf.new ≡ length buf.old }
     ensures bytes { ReadConsumes (R.remaining input.old) (R.remaining input.new) result buf.new }
 {
+    // No `for`, which ends by itself: that each try is one fewer has a wrong program of its own (again_forever).
     let mut left = AGAIN;
     while left > 0 {
         match input.read(buf) {
-            Ok(n) => return Ok(n),
-            Err(e) => {
-                if e.kind() != ErrorKind::Interrupted {
-                    return Err(e);
-                }
-            }
+            Err(e) if e.kind() == ErrorKind::Interrupted => left -= 1,
+            read => return read,
         }
-        left -= 1;
     }
     Err(io::Error::from(ErrorKind::Interrupted))
 }

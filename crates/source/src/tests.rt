@@ -1,5 +1,5 @@
 // What no clause says: interrupted reads are tried again, up to `AGAIN` times.
-use crate::{AGAIN, Got, fill};
+use crate::{AGAIN, ReadFailed, fill};
 use std::io;
 use std::io::{ErrorKind, Read};
 
@@ -23,7 +23,7 @@ impl Read for Fake {
             }
             return Ok(0);
         }
-        if buf.len() == 0 {
+        if buf.is_empty() {
             return Ok(0);
         }
         buf[0] = self.byte;
@@ -32,31 +32,33 @@ impl Read for Fake {
     }
 }
 
-// Of a slice of four: whether no read failed, how many bytes were put, and what it holds.
-fn filled(interrupts: usize, byte: u8, fails: bool) -> (bool, usize, u32) {
+// What is said of a slice of four, and what it holds.
+fn filled(interrupts: usize, byte: u8, fails: bool) -> (Result<usize, ReadFailed>, u32) {
     let mut buf = [0u8; 4];
     let mut input = Fake {
         interrupts,
         byte,
         fails,
     };
-    match fill(&mut input, &mut buf) {
-        Got::Bytes(n) => (true, n, u32::from_be_bytes(buf)),
-        Got::Failed(n) => (false, n, u32::from_be_bytes(buf)),
-    }
+    let read = fill(&mut input, &mut buf);
+    (read, u32::from_be_bytes(buf))
+}
+
+fn failed(read: usize) -> Result<usize, ReadFailed> {
+    Err(ReadFailed { read })
 }
 
 #[test]
 fn ends_and_failures(rt: HostRuntime) {
-    assert_eq!(rt; filled(0, 3, false), (true, 3, 0x03020100));
-    assert_eq!(rt; filled(0, 5, false), (true, 4, 0x05040302));
-    assert_eq!(rt; filled(0, 3, true), (false, 3, 0x03020100));
-    assert_eq!(rt; filled(0, 4, true), (true, 4, 0x04030201));
+    assert_eq!(rt; filled(0, 3, false), (Ok(3), 0x03020100));
+    assert_eq!(rt; filled(0, 5, false), (Ok(4), 0x05040302));
+    assert_eq!(rt; filled(0, 3, true), (failed(3), 0x03020100));
+    assert_eq!(rt; filled(0, 4, true), (Ok(4), 0x04030201));
 }
 
 #[test]
 fn interrupted_reads(rt: HostRuntime) {
-    assert_eq!(rt; filled(AGAIN - 1, 4, false), (true, 4, 0x04030201));
-    assert_eq!(rt; filled(AGAIN, 4, false), (false, 0, 0));
-    assert_eq!(rt; filled(3, 1, true), (false, 1, 0x01000000));
+    assert_eq!(rt; filled(AGAIN - 1, 4, false), (Ok(4), 0x04030201));
+    assert_eq!(rt; filled(AGAIN, 4, false), (failed(0), 0));
+    assert_eq!(rt; filled(3, 1, true), (failed(1), 0x01000000));
 }

@@ -4,7 +4,6 @@
 
 use comparer::reply::{Reply, Side};
 use model::sizes::{LIST_WORDS, MOST_BYTES};
-use source::Got;
 use unroller::Unrolled;
 use writer::Written;
 
@@ -14,10 +13,10 @@ fn main(rt: HostRuntime) {
     let stderr = rt.stderr();
     let mut program = [0u8; 16385];
     match source::fill(&mut stdin, &mut program) {
-        Got::Bytes(n) => {
+        Ok(n) => {
             unrolled(&stdout, &stderr, &program[0..n]);
         }
-        Got::Failed(_) => {
+        Err(_) => {
             complain(&stderr, "straight: a read of standard input failed");
         }
     }

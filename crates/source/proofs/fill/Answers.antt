@@ -4,4 +4,4 @@ use Rattle.source.proofs.fill.Goals as goal
 
 pub loop-done-preserved : goal.loop-done-preserved
 loop-done-preserved g c =
-    (search rules, search rules, took-more _ _ _ _ _ _ _ _ c.loop-done.invariant.1 (search rules) c.loop-done.invariant.2 c.in-Ok.ensures.bytes.0)
+    (search rules, took-more _ _ _ _ _ _ _ _ c.loop-done.invariant.0 (search rules) c.loop-done.invariant.1 c.in-Ok.ensures.bytes.0)
