@@ -2,187 +2,126 @@
 // the comparer. Where a read or a write fails there is no last line, only one on standard error.
 #![tactic(auto)]
 
-ghost use Rattle.std.specs.Prelude.{◌≤◌, length};
-ghost use Rattle.source.specs.Within.{Within};
+ghost use Rattle.std.specs.Prelude.{◌≤◌};
 
 use comparer::reply::Reply;
-use comparer::{LENGTHS_BYTES, Line, MOST_PAIRS, Totals};
+use comparer::{LENGTHS_BYTES, Lengths, MOST_PAIRS, Totals};
+use console::{Console, Failure};
 use model::sizes::{CELL_WORDS, LIST_WORDS, TERM_WORDS};
-use source::ReadFailed;
 use std::io::Read;
 
 // The bytes of the longest pair, behind its lengths.
 const BODY_BYTES: usize = 32768;
 
-// What follows a pair: the next one, the last line, or nothing, since a read or a write failed.
+// A pair's bytes behind its lengths, and what its comparison is lent.
+#[derive(Drop)]
+struct Memory {
+    body: [u8; BODY_BYTES],
+    left_list: [u32; LIST_WORDS],
+    right_list: [u32; LIST_WORDS],
+    cells: [u32; CELL_WORDS],
+    terms: [u32; TERM_WORDS],
+}
+
+// What follows a pair: the next one, or the last line.
 #[derive(Clone, Copy)]
 enum Next {
     Pair(Totals),
     Last(Totals),
-    Failed,
 }
 
 fn main(rt: HostRuntime) {
-    let mut stdin = rt.stdin();
-    let mut body = [0u8; BODY_BYTES];
-    let mut left_list = [0u32; LIST_WORDS];
-    let mut right_list = [0u32; LIST_WORDS];
-    let mut cells = [0u32; CELL_WORDS];
-    let mut terms = [0u32; TERM_WORDS];
-    run(
-        &rt,
-        &mut stdin,
-        &mut body,
-        &mut left_list,
-        &mut right_list,
-        &mut cells,
-        &mut terms,
-    );
+    let console = Console {
+        program: "batch",
+        out: &rt,
+        err: &rt,
+    };
+    let mut memory = Memory {
+        body: [0; BODY_BYTES],
+        left_list: [0; LIST_WORDS],
+        right_list: [0; LIST_WORDS],
+        cells: [0; CELL_WORDS],
+        terms: [0; TERM_WORDS],
+    };
+    // What fails there the console has said.
+    let _ = run(&console, &mut rt.stdin(), &mut memory);
 }
 
 fn run(
-    rt: &(impl Print + Eprint),
+    console: &Console<'_, impl Print, impl Eprint>,
     input: &mut impl Read,
-    body: &mut [u8],
-    left_list: &mut [u32],
-    right_list: &mut [u32],
-    cells: &mut [u32],
-    terms: &mut [u32],
-)
-    requires { 32768 ≤ length body.old }
-{
+    memory: &mut Memory,
+) -> Result<(), Failure> {
     let mut totals = comparer::no_totals();
-    let mut left = MOST_PAIRS;
-    while left > 0 {
-        match turn(rt, input, totals, body, left_list, right_list, cells, terms) {
-            Next::Pair(next) => {
-                totals = next;
-            }
+    for _ in 0..MOST_PAIRS {
+        match turn(console, input, totals, memory)? {
+            Next::Pair(next) => totals = next,
             Next::Last(next) => {
-                close(rt, next);
-                return;
-            }
-            Next::Failed => {
-                return;
+                totals = next;
+                break;
             }
         }
-        left -= 1;
     }
-    close(rt, totals);
+    let line = comparer::totals_line(totals);
+    console.print(&line.bytes[..line.len])
 }
 
 // The bytes of a pair's lengths.
 fn turn(
-    rt: &(impl Print + Eprint),
+    console: &Console<'_, impl Print, impl Eprint>,
     input: &mut impl Read,
     totals: Totals,
-    body: &mut [u8],
-    left_list: &mut [u32],
-    right_list: &mut [u32],
-    cells: &mut [u32],
-    terms: &mut [u32],
-) -> Next
-    requires { 32768 ≤ length body.old }
-{
+    memory: &mut Memory,
+) -> Result<Next, Failure> {
     let mut head = [0u8; LENGTHS_BYTES];
-    match source::fill(input, &mut head) {
-        Err(_) => unread(rt),
-        Ok(n) => match comparer::pair_lengths(&head[0..n]) {
-            Lengths::Ended => Next::Last(totals),
-            Lengths::Refused(side, number) => answered(
-                rt,
-                totals,
-                comparer::lengths_reply(side, number),
-                false,
-            ),
-            Lengths::Sizes(l, r) => behind(
-                rt, input, totals, l, r, body, left_list, right_list, cells, terms,
-            ),
-        },
+    let n = console.read(input, &mut head)?;
+    match comparer::pair_lengths(&head[..n]) {
+        Lengths::Ended => Ok(Next::Last(totals)),
+        Lengths::Refused(side, number) => {
+            let reply = comparer::lengths_reply(side, number);
+            answered(console, totals, reply, false)
+        }
+        Lengths::Sizes(left, right) => behind(console, input, totals, left, right, memory),
     }
-}
-
-// The next n bytes of the input.
-fn take(input: &mut impl Read, body: &mut [u8], n: usize) -> Result<usize, ReadFailed>
-    requires { n ≤ length body.old }
-    ensures { Within n result }
-{
-    source::fill(input, &mut body[0..n])
 }
 
 // The bytes behind the lengths.
 fn behind(
-    rt: &(impl Print + Eprint),
+    console: &Console<'_, impl Print, impl Eprint>,
     input: &mut impl Read,
     totals: Totals,
     left: usize,
     right: usize,
-    body: &mut [u8],
-    left_list: &mut [u32],
-    right_list: &mut [u32],
-    cells: &mut [u32],
-    terms: &mut [u32],
-) -> Next
-    requires { (left ≤ 16384) × (right ≤ 16384) × (32768 ≤ length body.old) }
+    memory: &mut Memory,
+) -> Result<Next, Failure>
+    requires { (left ≤ 16384) × (right ≤ 16384) }
 {
-    match take(input, body, left + right) {
-        Err(_) => unread(rt),
-        Ok(k) => {
-            let reply = comparer::compare_pair(
-                &body[0..k],
-                left,
-                right,
-                left_list,
-                right_list,
-                cells,
-                terms,
-            );
-            answered(rt, totals, reply, comparer::pair_whole(k, left, right))
-        }
-    }
+    let n = console.read(input, &mut memory.body[..left + right])?;
+    let reply = comparer::compare_pair(
+        &memory.body[..n],
+        left,
+        right,
+        &mut memory.left_list,
+        &mut memory.right_list,
+        &mut memory.cells,
+        &mut memory.terms,
+    );
+    answered(console, totals, reply, comparer::pair_whole(n, left, right))
 }
 
 // A reply's line, then the next pair if this one is whole.
-fn answered(rt: &(impl Print + Eprint), totals: Totals, reply: Reply, whole: bool) -> Next {
-    if !print(rt, comparer::line_of(reply)) {
-        return Next::Failed;
-    }
+fn answered(
+    console: &Console<'_, impl Print, impl Eprint>,
+    totals: Totals,
+    reply: Reply,
+    whole: bool,
+) -> Result<Next, Failure> {
+    let line = comparer::line_of(reply);
+    console.print(&line.bytes[..line.len])?;
     let next = comparer::count_reply(totals, reply);
-    if whole {
+    Ok(if whole {
         Next::Pair(next)
     } else {
         Next::Last(next)
-    }
-}
-
-fn close(rt: &(impl Print + Eprint), totals: Totals) {
-    print(rt, comparer::totals_line(totals));
-}
-
-fn unread(rt: &impl Eprint) -> Next {
-    complain(rt, "batch: a read of standard input failed");
-    Next::Failed
-}
-
-// Whether all of it was written.
-fn print(rt: &(impl Print + Eprint), line: Line) -> bool {
-    let bytes = line.bytes;
-    if write(rt, &bytes, line.len) {
-        return true;
-    }
-    complain(rt, "batch: a write to standard output failed");
-    false
-}
-
-fn write(out: &impl Print, bytes: &[u8], n: usize) -> bool {
-    if n <= bytes.len() {
-        out.write_all(&bytes[0..n]).is_ok()
-    } else {
-        false
-    }
-}
-
-// Where this write fails too, nothing is left to do.
-fn complain(rt: &impl Eprint, message: &str) {
-    let _ = rt.eprintln(message);
+    })
 }

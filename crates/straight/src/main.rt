@@ -3,78 +3,60 @@
 #![tactic(auto)]
 
 use comparer::reply::{Reply, Side};
+use console::Console;
 use model::sizes::{LIST_WORDS, MOST_BYTES};
 use unroller::Unrolled;
 use writer::Written;
 
 fn main(rt: HostRuntime) {
-    let mut stdin = rt.stdin();
-    let stdout = rt.stdout();
-    let stderr = rt.stderr();
-    let mut program = [0u8; 16385];
-    match source::fill(&mut stdin, &mut program) {
+    let err = rt.stderr();
+    let console = Console {
+        program: "straight",
+        out: &rt,
+        err: &err,
+    };
+    let mut input = [0u8; 16385];
+    if let Ok(n) = console.read(&mut rt.stdin(), &mut input) {
+        answer(&console, &input[..n]);
+    }
+}
+
+// The file, or on standard error the line of its refusal.
+fn answer(console: &Console<'_, impl Print, impl Print + Eprint>, program: &[u8]) {
+    let mut file = [0u8; MOST_BYTES];
+    match straight(program, &mut file) {
         Ok(n) => {
-            unrolled(&stdout, &stderr, &program[0..n]);
+            let _ = console.print(file.get(..n).unwrap_or(&[]));
         }
-        Err(_) => {
-            complain(&stderr, "straight: a read of standard input failed");
+        Err(reply) => {
+            let line = comparer::line_of(reply);
+            let refusals = Console {
+                program: console.program,
+                out: console.err,
+                err: console.err,
+            };
+            let _ = refusals.print(&line.bytes[..line.len]);
         }
     }
 }
 
-// 2 to 20; the list is long enough for 25.
-fn unrolled(out: &impl Print, err: &impl Print, program: &[u8]) {
+// The length of the file, or its refusal: 2 to 20, as the list is long enough for 25.
+fn straight(program: &[u8], file: &mut [u8]) -> Result<usize, Reply> {
     let mut list = [0u32; LIST_WORDS];
     match unroller::unroll(program, &mut list) {
-        Unrolled::Updates(_) => {
-            written(out, err, &list);
-        }
-        Unrolled::Refused(question, place) => {
-            refuse(err, Side::Left, question, place);
-        }
-        Unrolled::Short => {
-            refuse(err, Side::Both, 25, 0);
-        }
+        Unrolled::Updates(_) => written(&list, file),
+        Unrolled::Refused(question, place) => Err(Reply::Refused(Side::Left, question, place)),
+        Unrolled::Short => Err(Reply::Refused(Side::Both, 25, 0)),
     }
 }
 
-// 28 and 29; what was unrolled is accepted.
-fn written(out: &impl Print, err: &impl Print, list: &[u32]) {
-    let mut file = [0u8; MOST_BYTES];
-    match writer::write_file(list, &mut file) {
-        Written::File(n) => {
-            print(out, err, &file, n);
-        }
-        Written::Short => {
-            refuse(err, Side::Both, 25, 0);
-        }
-        Written::Refused => {
-            refuse(err, Side::Left, 26, 0);
-        }
-        Written::Wide(update) => {
-            refuse(err, Side::Left, 28, update);
-        }
-        Written::Long => {
-            refuse(err, Side::Left, 29, 0);
-        }
+// 28 and 29, as what was unrolled is accepted.
+fn written(list: &[u32], file: &mut [u8]) -> Result<usize, Reply> {
+    match writer::write_file(list, file) {
+        Written::File(n) => Ok(n),
+        Written::Short => Err(Reply::Refused(Side::Both, 25, 0)),
+        Written::Refused => Err(Reply::Refused(Side::Left, 26, 0)),
+        Written::Wide(update) => Err(Reply::Refused(Side::Left, 28, update)),
+        Written::Long => Err(Reply::Refused(Side::Left, 29, 0)),
     }
-}
-
-fn refuse(err: &impl Print, side: Side, question: u8, place: usize) {
-    let line = comparer::line_of(Reply::Refused(side, question, place));
-    let bytes = line.bytes;
-    print(err, err, &bytes, line.len);
-}
-
-fn print(to: &impl Print, err: &impl Print, bytes: &[u8], n: usize) {
-    if n <= bytes.len() {
-        if to.write_all(&bytes[0..n]).is_err() {
-            complain(err, "straight: a write to standard output failed");
-        }
-    }
-}
-
-// Where this write fails too, nothing is left to do.
-fn complain(err: &impl Print, message: &str) {
-    let _ = err.println(message);
 }
