@@ -1,11 +1,10 @@
 // The comparer's entries that explain a difference, the unroller's origin of an element, and the line of an explanation.
 use crate::memory::{added, fill, say_sum};
-use crate::numbers::{Args, low_byte, refused, say, say_signed, say_word};
+use crate::numbers::{Args, low_byte, refused, say, say_signed, say_word, signed_at};
 use crate::pairs::{say_line, say_side, side_of};
 use comparer::reply::Side;
 use comparer::{Answer, Chosen, Explanation};
-use model::byte::wide;
-use reader::fields::{i16_of, pair};
+use reader::fields::pair;
 use unroller::{Origin, Source};
 
 pub(crate) fn called(rt: &impl Print, entry: usize, x: Args, s: &[u8]) {
@@ -64,7 +63,7 @@ fn of_input(
         refused(rt);
         return;
     }
-    let side = chosen(wide(s[0]));
+    let side = chosen(usize::from(s[0]));
     say_explanation(
         rt,
         comparer::explain_input(&s[1..], side, left_list, right_list, cells, terms),
@@ -85,7 +84,7 @@ fn of_masked_input(
         return;
     }
     let mask = pair(s[0], s[1]);
-    let side = chosen(wide(s[2]));
+    let side = chosen(usize::from(s[2]));
     say_explanation(
         rt,
         comparer::explain_input_masked(&s[3..], mask, side, left_list, right_list, cells, terms),
@@ -112,7 +111,7 @@ fn of_programs(
     }
     let end = 3 + n;
     let mask = pair(s[0], s[1]);
-    let side = chosen(wide(s[2]));
+    let side = chosen(usize::from(s[2]));
     say_explanation(
         rt,
         comparer::explain(
@@ -153,7 +152,7 @@ fn say_kind(rt: &impl Print, kind: usize) {
 fn say_refusal(rt: &impl Print, side: Side, question: u8, place: usize) {
     say(rt, 2);
     say_side(rt, side);
-    say(rt, wide(question));
+    say(rt, usize::from(question));
     say(rt, place);
 }
 
@@ -214,13 +213,9 @@ fn stretch(rt: &impl Print, x: Args, s: &[u8]) {
 pub(crate) fn say_byte_sum(rt: &impl Print, s: &[u8]) {
     let mut sum: u32 = 0;
     for x in s {
-        sum = added(sum, word(*x));
+        sum = added(sum, u32::from(*x));
     }
     say_word(rt, sum);
-}
-
-fn word(x: u8) -> u32 {
-    x as u32
 }
 
 // The words that fill the list again and again come before the program.
@@ -272,7 +267,7 @@ fn say_source(rt: &impl Print, source: Source) {
 fn line(rt: &impl Print, x: Args, s: &[u8]) {
     let mut indices = [0i16; 8];
     for k in 0..8usize {
-        indices[k] = index_at(s, 2 * k);
+        indices[k] = signed_at(s, 2 * k);
     }
     say_line(
         rt,
@@ -292,15 +287,4 @@ fn answer_of(x: Args) -> Answer {
         1 => Answer::Starting(x.b, x.c),
         _ => Answer::Refused(side_of(x.b % 4), low_byte(x.c), x.d),
     }
-}
-
-// 0 where it is not there as a whole.
-fn index_at(s: &[u8], at: usize) -> i16 {
-    if at > s.len() {
-        return 0;
-    }
-    if s.len() - at < 2 {
-        return 0;
-    }
-    i16_of(pair(s[at], s[at + 1]))
 }

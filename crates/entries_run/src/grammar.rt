@@ -4,7 +4,6 @@ use crate::numbers::{
     Args, refused, say, say_field, say_place, say_signed, say_signed_field, say_small,
 };
 use crate::tabled::say_tables;
-use model::byte::wide;
 use reader::Verdict;
 use reader::tables::FlatTables;
 
@@ -90,7 +89,7 @@ fn verdict(rt: &impl Print, s: &[u8]) {
         }
         Verdict::Refused(number, place) => {
             say(rt, 0);
-            say(rt, wide(number));
+            say(rt, usize::from(number));
             say(rt, place);
         }
     }

@@ -15,57 +15,17 @@ mod store;
 mod tabled;
 mod writes;
 
-ghost use Rattle.std.specs.Prelude.{◌≤◌, length};
-
-use crate::numbers::{Args, number_at, number_of, refused};
-use model::byte::wide;
+use crate::numbers::{Args, number_at, refused};
 use reader::tables::FLAT;
-use std::io::Read;
 
 fn main(rt: HostRuntime) {
     let mut stdin = rt.stdin();
-    for _turn in 0..100000000u32 {
-        if !next(&rt, &mut stdin) {
-            return;
-        }
-    }
-}
-
-// The next record, if there is one: a length of four bytes, then so many bytes.
-fn next(rt: &impl Print, input: &mut impl Read) -> bool {
     let mut record = [0u8; 65536];
-    let n = length(input);
-    take(rt, input, &mut record, n)
-}
-
-fn take(rt: &impl Print, input: &mut impl Read, record: &mut [u8], n: usize) -> bool {
-    if n > record.len() {
-        return false;
-    }
-    let got = read_full(input, &mut record[0..n]);
-    if got > record.len() {
-        return false;
-    }
-    answer(rt, &record[0..got]);
-    true
-}
-
-// At the end of the stream a length that no record has.
-fn length(input: &mut impl Read) -> usize {
-    let mut head = [0u8; 4];
-    if read_full(input, &mut head) < 4 {
-        return 4294967296;
-    }
-    number_of(&head)
-}
-
-// How many bytes were put at the start of buf, also where a read failed behind them.
-fn read_full(input: &mut impl Read, buf: &mut [u8]) -> usize
-    ensures { result ≤ length buf.old }
-{
-    match source::fill(input, buf) {
-        Ok(n) => n,
-        Err(e) => e.read,
+    for _ in 0..100_000_000u32 {
+        match source::frame(&mut stdin, &mut record) {
+            Some(n) => answer(&rt, &record[..n]),
+            None => return,
+        }
     }
 }
 
@@ -83,7 +43,7 @@ fn answer(rt: &impl Print, record: &[u8]) {
         e: number_at(record, 33),
         f: number_at(record, 41),
     };
-    let entry = wide(record[0]);
+    let entry = usize::from(record[0]);
     let _ = print!(rt; "{entry}");
     called(rt, entry, x, &record[49..]);
     let _ = println!(rt);

@@ -1,8 +1,4 @@
 // Numbers from the bytes of a record, and numbers on the line.
-ghost use Rattle.std.specs.Prelude.{◌≤◌};
-
-use model::byte::wide;
-use model::numbers::size;
 use reader::fields::{Field, Place, Signed};
 
 // The arguments of an entry; one with fewer leaves the last aside.
@@ -16,39 +12,22 @@ pub(crate) struct Args {
     pub f: usize,
 }
 
-fn quad(a: u8, b: u8, c: u8, d: u8) -> u32 {
-    a as u32 + 256 * (b as u32 + 256 * (c as u32 + 256 * (d as u32)))
-}
-
-fn wide_word(x: u32) -> usize
-    ensures { result ≤ 4294967295 }
-{
-    x as usize
-}
-
-pub(crate) fn number_of(head: &[u8; 4]) -> usize {
-    wide_word(quad(head[0], head[1], head[2], head[3]))
+// The bytes from there on, where they are all there.
+fn bytes_at<const N: usize>(s: &[u8], at: usize) -> Option<[u8; N]> {
+    Some(*s.get(at..)?.first_chunk()?)
 }
 
 // Bytes that are not there count as 0 together.
 pub(crate) fn word_at(s: &[u8], at: usize) -> u32 {
-    if at > s.len() {
-        return 0;
-    }
-    if s.len() - at < 4 {
-        return 0;
-    }
-    quad(s[at], s[at + 1], s[at + 2], s[at + 3])
+    bytes_at(s, at).map_or(0, u32::from_le_bytes)
 }
 
 pub(crate) fn number_at(s: &[u8], at: usize) -> usize {
-    if at > s.len() {
-        return 0;
-    }
-    if s.len() - at < 8 {
-        return 0;
-    }
-    wide_word(word_at(s, at)) + 4294967296 * wide_word(word_at(s, at + 4))
+    bytes_at(s, at).map_or(0, usize::from_le_bytes)
+}
+
+pub(crate) fn signed_at(s: &[u8], at: usize) -> i16 {
+    bytes_at(s, at).map_or(0, i16::from_le_bytes)
 }
 
 // Lower bytes of an argument, for entries that take fewer.
@@ -70,31 +49,25 @@ pub(crate) fn say(rt: &impl Print, n: usize) {
 }
 
 pub(crate) fn say_word(rt: &impl Print, n: u32) {
-    say(rt, wide_word(n));
+    say(rt, n as usize);
 }
 
 pub(crate) fn say_bool(rt: &impl Print, b: bool) {
-    if b {
-        say(rt, 1);
-    } else {
-        say(rt, 0);
-    }
+    say(rt, usize::from(b));
 }
 
 pub(crate) fn say_signed(rt: &impl Print, v: i16) {
-    let sign = if v < 0 { "-" } else { "" };
-    let distance = size(v);
-    let _ = print!(rt; " {sign}{distance}");
+    let _ = print!(rt; " {v}");
 }
 
 pub(crate) fn say_small(rt: &impl Print, v: i8) {
-    say_signed(rt, v as i16);
+    say_signed(rt, i16::from(v));
 }
 
 // A question's number and its place, after the 0 that tells a refusal from an answer.
 fn say_not(rt: &impl Print, number: u8, place: usize) {
     say(rt, 0);
-    say(rt, wide(number));
+    say(rt, usize::from(number));
     say(rt, place);
 }
 

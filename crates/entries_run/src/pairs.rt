@@ -6,7 +6,6 @@ use crate::numbers::{Args, low_byte, refused, say};
 use crate::{batches, explanations};
 use comparer::reply::{Reply, Side};
 use comparer::{LINE_BYTES, Line};
-use model::byte::wide;
 use reader::fields::pair;
 
 pub(crate) fn called(rt: &impl Print, entry: usize, x: Args, s: &[u8]) {
@@ -206,7 +205,7 @@ pub(crate) fn say_reply(rt: &impl Print, reply: Reply) {
         Reply::Refused(side, k, p) => {
             say(rt, 2);
             say_side(rt, side);
-            say(rt, wide(k));
+            say(rt, usize::from(k));
             say(rt, p);
         }
     }
@@ -254,6 +253,6 @@ pub(crate) fn side_of(n: usize) -> Side {
 
 fn say_bytes(rt: &impl Print, bytes: &[u8; LINE_BYTES]) {
     for k in 0..LINE_BYTES {
-        say(rt, wide(bytes[k]));
+        say(rt, usize::from(bytes[k]));
     }
 }

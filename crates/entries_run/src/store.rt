@@ -1,7 +1,6 @@
 // The store's entries: a script of calls on one memory, which need not hold a store.
 use crate::memory::{fill, say_sum};
 use crate::numbers::{Args, refused, say, say_bool, say_word, word_at};
-use model::byte::wide;
 use terms::{Interned, Node, Start};
 
 // The memory's words and its period come before the script.
@@ -57,7 +56,11 @@ fn step(rt: &impl Print, memory: &mut [u32], count: u32, s: &[u8]) -> u32 {
 }
 
 fn code_of(s: &[u8]) -> usize {
-    if s.len() == 0 { 0 } else { wide(s[0]) % 6 }
+    if s.len() == 0 {
+        0
+    } else {
+        usize::from(s[0]) % 6
+    }
 }
 
 // With the count so far, or with any.

@@ -9,8 +9,11 @@ ghost use Rattle.source.specs.Within.{Within};
 use std::io;
 use std::io::{ErrorKind, Read};
 
+mod stream;
 #[cfg(test)]
 mod tests;
+
+pub use stream::{frame, length};
 
 // A read failed behind so many bytes.
 #[derive(Clone, Copy, Debug, PartialEq, Eq)]
