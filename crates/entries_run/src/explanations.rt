@@ -25,10 +25,7 @@ pub(crate) fn called(rt: &impl Print, entry: usize, x: Args, s: &[u8]) {
 }
 
 fn chosen(n: usize) -> Chosen {
-    if n == 0 {
-        return Chosen::Left;
-    }
-    Chosen::Right
+    if n == 0 { Chosen::Left } else { Chosen::Right }
 }
 
 // A mask and a side stand before the two programs, of which the left has n bytes, and before framed input; or a side alone (38).
@@ -193,8 +190,8 @@ fn say_stretch(rt: &impl Print, from: usize, to: usize, count: usize, indices: [
     say(rt, from);
     say(rt, to);
     say(rt, count);
-    for k in 0..8usize {
-        say_signed(rt, indices[k]);
+    for index in indices {
+        say_signed(rt, index);
     }
 }
 
@@ -211,10 +208,7 @@ fn stretch(rt: &impl Print, x: Args, s: &[u8]) {
 }
 
 pub(crate) fn say_byte_sum(rt: &impl Print, s: &[u8]) {
-    let mut sum: u32 = 0;
-    for x in s {
-        sum = added(sum, u32::from(*x));
-    }
+    let sum = s.iter().fold(0, |sum, byte| added(sum, u32::from(*byte)));
     say_word(rt, sum);
 }
 

@@ -64,14 +64,9 @@ fn form(rt: &impl Print, s: &[u8], at: usize, loops: usize) {
 }
 
 fn coefficients(rt: &impl Print, c: &[i8; 8]) {
-    say_small(rt, c[0]);
-    say_small(rt, c[1]);
-    say_small(rt, c[2]);
-    say_small(rt, c[3]);
-    say_small(rt, c[4]);
-    say_small(rt, c[5]);
-    say_small(rt, c[6]);
-    say_small(rt, c[7]);
+    for coefficient in c {
+        say_small(rt, *coefficient);
+    }
 }
 
 fn head(rt: &impl Print, s: &[u8]) {

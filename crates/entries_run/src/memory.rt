@@ -15,25 +15,19 @@ fn stored(s: &[u8], j: usize) -> u32 {
 }
 
 fn after(j: usize, period: usize) -> usize {
-    if j < 65536 {
-        if j + 1 < period {
-            return j + 1;
-        }
+    if j < 65536 && j + 1 < period {
+        j + 1
+    } else {
+        0
     }
-    0
 }
 
 // Three is odd: one word that differs changes the sum.
 pub(crate) fn added(sum: u32, word: u32) -> u32 {
-    let two = std::num::wrapping_add_u32(sum, sum);
-    let three = std::num::wrapping_add_u32(two, sum);
-    std::num::wrapping_add_u32(three, word)
+    sum.wrapping_mul(3).wrapping_add(word)
 }
 
 pub(crate) fn say_sum(rt: &impl Print, memory: &[u32]) {
-    let mut sum: u32 = 0;
-    for word in memory {
-        sum = added(sum, *word);
-    }
+    let sum = memory.iter().fold(0, |sum, word| added(sum, *word));
     say_word(rt, sum);
 }

@@ -10,29 +10,11 @@ use reader::fields::pair;
 
 pub(crate) fn called(rt: &impl Print, entry: usize, x: Args, s: &[u8]) {
     match entry {
-        31 => {
-            compared(rt, entry, x, s);
-        }
-        32 => {
+        31 | 32 | 34 | 38 | 40 | 43 | 44 => {
             compared(rt, entry, x, s);
         }
         33 => {
             say_line(rt, comparer::line_of(reply_of(x)));
-        }
-        34 => {
-            compared(rt, entry, x, s);
-        }
-        38 => {
-            compared(rt, entry, x, s);
-        }
-        40 => {
-            compared(rt, entry, x, s);
-        }
-        43 => {
-            compared(rt, entry, x, s);
-        }
-        44 => {
-            compared(rt, entry, x, s);
         }
         _ => {
             others(rt, entry, x, s);
@@ -252,7 +234,7 @@ pub(crate) fn side_of(n: usize) -> Side {
 }
 
 fn say_bytes(rt: &impl Print, bytes: &[u8; LINE_BYTES]) {
-    for k in 0..LINE_BYTES {
-        say(rt, usize::from(bytes[k]));
+    for byte in bytes {
+        say(rt, usize::from(*byte));
     }
 }

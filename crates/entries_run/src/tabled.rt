@@ -3,8 +3,8 @@ use crate::numbers::{Args, low_byte, low_pair, number_at, say};
 use reader::tables::{BASES, FLAT, FlatTables, Tables};
 
 pub(crate) fn fill(tables: &mut FlatTables, s: &[u8]) {
-    for k in 0..FLAT {
-        tables[k] = number_at(s, 8 * k);
+    for (k, number) in tables.iter_mut().enumerate() {
+        *number = number_at(s, 8 * k);
     }
 }
 
@@ -44,8 +44,8 @@ pub(crate) fn say_tables(rt: &impl Print, tables: Tables) {
 }
 
 fn say_row(rt: &impl Print, row: &FlatTables) {
-    for k in 0..FLAT {
-        say(rt, row[k]);
+    for number in row {
+        say(rt, *number);
     }
 }
 

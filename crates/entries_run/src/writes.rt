@@ -16,19 +16,10 @@ pub(crate) fn called(rt: &impl Print, x: Args, s: &[u8]) {
     let mut list = [0u32; 33000];
     let mut out = [0u8; 20000];
     fill(&mut list, &s[0..4 * k], x.c);
-    hold(&mut out, &s[4 * k..]);
-    lent(rt, &list, x.a, &mut out, x.d);
-}
-
-// The bytes of `s`, and 0 where it has fewer.
-fn hold(out: &mut [u8], s: &[u8]) {
-    for i in 0..out.len() {
-        out[i] = stored(s, i);
+    for (byte, held) in out.iter_mut().zip(&s[4 * k..]) {
+        *byte = *held;
     }
-}
-
-fn stored(s: &[u8], i: usize) -> u8 {
-    if i < s.len() { s[i] } else { 0 }
+    lent(rt, &list, x.a, &mut out, x.d);
 }
 
 // So many words and bytes.

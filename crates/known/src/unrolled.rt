@@ -1,6 +1,4 @@
 // How many updates and nodes a program gives.
-ghost use Rattle.std.specs.Prelude.{◌≤◌};
-
 use model::sizes::{HEADER_WORDS, LIST_WORDS};
 use unroller::Unrolled;
 
@@ -18,20 +16,9 @@ fn case(rt: &impl Print, name: &str, program: &[u8]) {
 }
 
 // The code of a node's record is above 15, that of an update is 1.
-fn one_node(code: u32) -> usize
-    ensures { result ≤ 1 }
-{
-    if 15 < code { 1 } else { 0 }
-}
-
 fn nodes(list: &[u32]) -> usize {
-    let mut at: usize = HEADER_WORDS;
-    let mut n: usize = 0;
-    while at < list.len() {
-        n += one_node(list[at]);
-        at += 3;
-    }
-    n
+    let codes = list.iter().skip(HEADER_WORDS).step_by(3);
+    codes.filter(|code| **code > 15).count()
 }
 
 pub(crate) fn jacobi(rt: &impl Print) {

@@ -1,9 +1,0 @@
--- The loop ends: it goes through the list.
-use Rattle.std.proofs.Common.{◌≤◌, ◌-◌, length}
-use Rattle.known.proofs.unrolled.nodes.Given as goal
-
-abbrev pub invariant-loop-at : goal.invariant-loop-at
-invariant-loop-at l = l.n ≤ l.at
-
-abbrev pub decreases-loop-at : goal.decreases-loop-at
-decreases-loop-at l = length l.list - l.at
