@@ -5,7 +5,7 @@
 ghost use Rattle.std.specs.Prelude.{◌≤◌};
 
 use comparer::reply::Reply;
-use comparer::{LENGTHS_BYTES, Lengths, MOST_PAIRS, Totals};
+use comparer::{LENGTHS_BYTES, LengthsError, MOST_PAIRS, Totals};
 use console::{Console, Failure};
 use model::sizes::{CELL_WORDS, LIST_WORDS, TERM_WORDS};
 use std::io::Read;
@@ -21,13 +21,6 @@ struct Memory {
     right_list: [u32; LIST_WORDS],
     cells: [u32; CELL_WORDS],
     terms: [u32; TERM_WORDS],
-}
-
-// What follows a pair: the next one, or the last line.
-#[derive(Clone, Copy)]
-enum Next {
-    Pair(Totals),
-    Last(Totals),
 }
 
 fn main(rt: HostRuntime) {
@@ -54,46 +47,42 @@ fn run(
 ) -> Result<(), Failure> {
     let mut totals = comparer::no_totals();
     for _ in 0..MOST_PAIRS {
-        match turn(console, input, totals, memory)? {
-            Next::Pair(next) => totals = next,
-            Next::Last(next) => {
-                totals = next;
-                break;
-            }
+        if !turn(console, input, &mut totals, memory)? {
+            break;
         }
     }
     let line = comparer::totals_line(totals);
-    console.print(&line.bytes[..line.len])
+    console.print(line.as_bytes())
 }
 
-// The bytes of a pair's lengths.
+// The bytes of a pair's lengths, then the pair; whether another may follow it.
 fn turn(
     console: &Console<'_, impl Print, impl Eprint>,
     input: &mut impl Read,
-    totals: Totals,
+    totals: &mut Totals,
     memory: &mut Memory,
-) -> Result<Next, Failure> {
+) -> Result<bool, Failure> {
     let mut head = [0u8; LENGTHS_BYTES];
     let n = console.read(input, &mut head)?;
     match comparer::pair_lengths(&head[..n]) {
-        Lengths::Ended => Ok(Next::Last(totals)),
-        Lengths::Refused(side, number) => {
-            let reply = comparer::lengths_reply(side, number);
-            answered(console, totals, reply, false)
+        Ok(None) => Ok(false),
+        Ok(Some((left, right))) => behind(console, input, totals, left, right, memory),
+        Err(LengthsError { side, number }) => {
+            answered(console, totals, comparer::lengths_reply(side, number))?;
+            Ok(false)
         }
-        Lengths::Sizes(left, right) => behind(console, input, totals, left, right, memory),
     }
 }
 
-// The bytes behind the lengths.
+// The bytes behind the lengths. If they do not hold the pair, it is the last.
 fn behind(
     console: &Console<'_, impl Print, impl Eprint>,
     input: &mut impl Read,
-    totals: Totals,
+    totals: &mut Totals,
     left: usize,
     right: usize,
     memory: &mut Memory,
-) -> Result<Next, Failure>
+) -> Result<bool, Failure>
     requires { (left ≤ 16384) × (right ≤ 16384) }
 {
     let n = console.read(input, &mut memory.body[..left + right])?;
@@ -106,22 +95,18 @@ fn behind(
         &mut memory.cells,
         &mut memory.terms,
     );
-    answered(console, totals, reply, comparer::pair_whole(n, left, right))
+    answered(console, totals, reply)?;
+    Ok(comparer::pair_whole(n, left, right))
 }
 
-// A reply's line, then the next pair if this one is whole.
+// A reply's line.
 fn answered(
     console: &Console<'_, impl Print, impl Eprint>,
-    totals: Totals,
+    totals: &mut Totals,
     reply: Reply,
-    whole: bool,
-) -> Result<Next, Failure> {
+) -> Result<(), Failure> {
     let line = comparer::line_of(reply);
-    console.print(&line.bytes[..line.len])?;
-    let next = comparer::count_reply(totals, reply);
-    Ok(if whole {
-        Next::Pair(next)
-    } else {
-        Next::Last(next)
-    })
+    console.print(line.as_bytes())?;
+    *totals = comparer::count_reply(*totals, reply);
+    Ok(())
 }

@@ -21,7 +21,7 @@ use comparer::{
     Answer, Chosen, Explanation, compare_lists, compare_programs, compare_programs_masked, explain,
 };
 use unroller::{Checked, Unrolled, check_list, unroll};
-use writer::{Written, write_file};
+use writer::{WriteError, write_file};
 
 // Kind 0, equal: how many elements were compared (of `unroll` the updates, of `check_list` 0, of `write_file` the bytes). 1, differs: array and cell.
 // 2, refused: side (0 left, 1 right, 2 both, 3 input), question and place. Unused numbers are 0.
@@ -102,15 +102,15 @@ fn checked_numbers(answer: Checked) -> Numbers
     }
 }
 
-fn written_numbers(answer: Written) -> Numbers
+fn written_numbers(answer: Result<usize, WriteError>) -> Numbers
     ensures { result ≡ written_numbers (written_says answer) }
 {
     match answer {
-        Written::File(n) => count(n),
-        Written::Short => refusal(Side::Both, 25, 0),
-        Written::Refused => refusal(Side::Left, 26, 0),
-        Written::Wide(update) => refusal(Side::Left, 28, update),
-        Written::Long => refusal(Side::Left, 29, 0),
+        Ok(n) => count(n),
+        Err(WriteError::Short) => refusal(Side::Both, 25, 0),
+        Err(WriteError::Refused) => refusal(Side::Left, 26, 0),
+        Err(WriteError::Wide(update)) => refusal(Side::Left, 28, update),
+        Err(WriteError::Long) => refusal(Side::Left, 29, 0),
     }
 }
 

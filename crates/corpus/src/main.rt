@@ -14,5 +14,5 @@ fn main(rt: HostRuntime) {
 
 fn answer(rt: &impl Print, pair: &[u8]) {
     let line = comparer::line_of(framed::compare(pair, None));
-    let _ = rt.write_all(&line.bytes[..line.len]);
+    let _ = rt.write_all(line.as_bytes());
 }

@@ -1,7 +1,10 @@
 // The store's entries: a script of calls on one memory, which need not hold a store.
 use crate::memory::{fill, say_sum};
 use crate::numbers::{Args, refused, say, say_bool, say_word, word_at};
-use terms::{Interned, Node, Start};
+use terms::{InternError, Node, ShortMemory};
+
+// What `put` counts where it refuses, one more than there is room for.
+const MORE_TERMS: u32 = 4097;
 
 // The memory's words and its period come before the script.
 pub(crate) fn called(rt: &impl Print, x: Args, s: &[u8]) {
@@ -86,14 +89,20 @@ fn node_of(s: &[u8]) -> Node {
 
 fn interned(rt: &impl Print, memory: &mut [u32], count: u32, s: &[u8]) -> u32 {
     match terms::intern(memory, count, node_of(s)) {
-        Interned::At(k) => {
+        Ok(k) => {
             say(rt, 1);
             say_word(rt, k.count);
             say_word(rt, k.id);
             k.count
         }
-        Interned::Full => no(rt, 24, count),
-        Interned::Short => no(rt, 25, count),
+        Err(error) => no(rt, number_of(error), count),
+    }
+}
+
+fn number_of(error: InternError) -> usize {
+    match error {
+        InternError::Full => 24,
+        InternError::Short => 25,
     }
 }
 
@@ -111,23 +120,27 @@ fn put(rt: &impl Print, memory: &mut [u32], count: u32, s: &[u8]) -> u32 {
         word_at(s, 21),
         word_at(s, 25),
     ];
-    let kept = terms::put(memory, count, word_at(s, 5), word_at(s, 9), ids);
-    say_word(rt, kept.count);
-    say_word(rt, kept.id);
-    kept.count
+    match terms::put(memory, count, word_at(s, 5), word_at(s, 9), ids) {
+        Ok(kept) => {
+            say_word(rt, kept.count);
+            say_word(rt, kept.id);
+            kept.count
+        }
+        Err(error) => {
+            say_word(rt, MORE_TERMS);
+            say(rt, number_of(error));
+            MORE_TERMS
+        }
+    }
 }
 
-fn say_start(rt: &impl Print, start: Start) {
+fn say_start(rt: &impl Print, start: Result<bool, ShortMemory>) {
     match start {
-        Start::Yes => {
+        Ok(is_start) => {
             say(rt, 1);
-            say(rt, 1);
+            say_bool(rt, is_start);
         }
-        Start::No => {
-            say(rt, 1);
-            say(rt, 0);
-        }
-        Start::Short => {
+        Err(ShortMemory) => {
             no(rt, 25, 0);
         }
     }

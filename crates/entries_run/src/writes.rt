@@ -4,7 +4,7 @@ use crate::memory::fill;
 use crate::numbers::{Args, refused};
 use crate::pairs::say_reply;
 use comparer::reply::{Reply, Side};
-use writer::Written;
+use writer::WriteError;
 
 // The list's words and its period come before what the output holds.
 pub(crate) fn called(rt: &impl Print, x: Args, s: &[u8]) {
@@ -41,12 +41,12 @@ fn written(rt: &impl Print, list: &[u32], out: &mut [u8]) {
 }
 
 // The file's length takes the place of the number compared.
-fn reply_of(answer: Written) -> Reply {
+fn reply_of(answer: Result<usize, WriteError>) -> Reply {
     match answer {
-        Written::File(n) => Reply::Equal(n),
-        Written::Short => Reply::Refused(Side::Both, 25, 0),
-        Written::Refused => Reply::Refused(Side::Left, 26, 0),
-        Written::Wide(update) => Reply::Refused(Side::Left, 28, update),
-        Written::Long => Reply::Refused(Side::Left, 29, 0),
+        Ok(n) => Reply::Equal(n),
+        Err(WriteError::Short) => Reply::Refused(Side::Both, 25, 0),
+        Err(WriteError::Refused) => Reply::Refused(Side::Left, 26, 0),
+        Err(WriteError::Wide(update)) => Reply::Refused(Side::Left, 28, update),
+        Err(WriteError::Long) => Reply::Refused(Side::Left, 29, 0),
     }
 }

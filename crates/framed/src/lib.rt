@@ -78,11 +78,11 @@ pub fn answer(
 {
     let reply = compare(input, mask);
     let line = comparer::line_of(reply);
-    let _ = console.print(&line.bytes[..line.len]);
+    let _ = console.print(line.as_bytes());
     if matches!(reply, Reply::Differs(..)) {
         for side in [Chosen::Left, Chosen::Right] {
             let line = comparer::explanation_line(explain(input, mask, side));
-            let _ = console.print(&line.bytes[..line.len]);
+            let _ = console.print(line.as_bytes());
         }
     }
     reply

@@ -53,5 +53,5 @@ fn answer(rt: &impl Print, left: &[u32], right: &[u32], mask: u16) {
     let mut terms = [0u32; TERM_WORDS];
     let reply = comparer::compare_lists(left, right, mask, &mut cells, &mut terms);
     let line = comparer::line_of(reply);
-    let _ = rt.write_all(&line.bytes[..line.len]);
+    let _ = rt.write_all(line.as_bytes());
 }

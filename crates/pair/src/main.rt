@@ -13,6 +13,6 @@ fn main(rt: HostRuntime) {
     let mut input = [0u8; 32771];
     if let Ok(n) = console.read(&mut rt.stdin(), &mut input) {
         let line = comparer::line_of(framed::compare(&input[..n], None));
-        let _ = console.print(&line.bytes[..line.len]);
+        let _ = console.print(line.as_bytes());
     }
 }

@@ -6,7 +6,7 @@ use comparer::reply::{Reply, Side};
 use console::Console;
 use model::sizes::{LIST_WORDS, MOST_BYTES};
 use unroller::Unrolled;
-use writer::Written;
+use writer::WriteError;
 
 fn main(rt: HostRuntime) {
     let err = rt.stderr();
@@ -35,7 +35,7 @@ fn answer(console: &Console<'_, impl Print, impl Print + Eprint>, program: &[u8]
                 out: console.err,
                 err: console.err,
             };
-            let _ = refusals.print(&line.bytes[..line.len]);
+            let _ = refusals.print(line.as_bytes());
         }
     }
 }
@@ -53,10 +53,10 @@ fn straight(program: &[u8], file: &mut [u8]) -> Result<usize, Reply> {
 // 28 and 29, as what was unrolled is accepted.
 fn written(list: &[u32], file: &mut [u8]) -> Result<usize, Reply> {
     match writer::write_file(list, file) {
-        Written::File(n) => Ok(n),
-        Written::Short => Err(Reply::Refused(Side::Both, 25, 0)),
-        Written::Refused => Err(Reply::Refused(Side::Left, 26, 0)),
-        Written::Wide(update) => Err(Reply::Refused(Side::Left, 28, update)),
-        Written::Long => Err(Reply::Refused(Side::Left, 29, 0)),
+        Ok(n) => Ok(n),
+        Err(WriteError::Short) => Err(Reply::Refused(Side::Both, 25, 0)),
+        Err(WriteError::Refused) => Err(Reply::Refused(Side::Left, 26, 0)),
+        Err(WriteError::Wide(update)) => Err(Reply::Refused(Side::Left, 28, update)),
+        Err(WriteError::Long) => Err(Reply::Refused(Side::Left, 29, 0)),
     }
 }
