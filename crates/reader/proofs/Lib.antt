@@ -5,15 +5,10 @@ pub mod Depth
 pub mod Lists
 pub mod Bytes
 pub mod Steps
-pub mod Affine
 pub mod Words
 pub mod Packing
 pub mod Forward
-pub mod Nodes
-pub mod Runs
-pub mod Heads
 pub mod Stores
 pub mod Flattened
-pub mod Whole
 pub mod Laws
 pub mod Questions

@@ -6,36 +6,26 @@ use mathlib.Core.Bool.{Bool, true, false}
 use native.Mathlib.Omega.{arith}
 use native.Mathlib.Numerals.{sub-one}
 use lib.IntN.{ℤ}
+use Rattle.std.specs.Prelude.{Result, Ok, Err}
+use Rattle.model.specs.Questions.{number_of}
+use Rattle.model.specs.declared.question.Refusal.{Refusal}
 use Rattle.reader.specs.Field.{Outcome, got, no, Reader, and_then, ask, times}
 use Rattle.reader.specs.Grammar.{index}
-use Rattle.reader.specs.Answers.{through, ended, field_says, signed_says, place_says}
-use Rattle.reader.specs.declared.fields.Field.{Field}
-use Rattle.reader.specs.declared.fields.Field.TheVariants as field
-use Rattle.reader.specs.declared.fields.Signed.{Signed}
-use Rattle.reader.specs.declared.fields.Signed.TheVariants as signed
-use Rattle.reader.specs.declared.fields.Place.{Place}
-use Rattle.reader.specs.declared.fields.Place.TheVariants as place
+use Rattle.reader.specs.Answers.{through, ended, read_says, place_says}
 
 -- what a reader said, from the case of the answer that code matched on
-module _ {m : Outcome ℕ} {r : Field} (e : field_says r ≡ m) where
-  pub field-got : {x next : ℕ} → r ≡ field.Is x next → m ≡ got x next
-  field-got q = sym e ∙ ap field_says q
+module _ {A : Type 0} {m : Outcome A} {r : Result (A × ℕ) Refusal} (e : read_says r ≡ m) where
+  pub read-got : {x : A} {next : ℕ} → r ≡ Ok (x, next) → m ≡ got x next
+  read-got q = sym e ∙ ap read_says q
 
-  pub field_no : {k p : ℕ} → r ≡ field.Not k p → m ≡ no k p
-  field_no q = sym e ∙ ap field_says q
+  pub read_no : {f : Refusal} → r ≡ Err f → m ≡ no (number_of f.question) f.place
+  read_no q = sym e ∙ ap read_says q
 
-module _ {m : Outcome ℤ} {r : Signed} (e : signed_says r ≡ m) where
-  pub signed-got : {z : ℤ} {next : ℕ} → r ≡ signed.Is z next → m ≡ got z next
-  signed-got q = sym e ∙ ap signed_says q
-
-  pub signed_no : {k p : ℕ} → r ≡ signed.Not k p → m ≡ no k p
-  signed_no q = sym e ∙ ap signed_says q
-
-module _ {m : Outcome ℕ} {r : Place} (e : place_says r ≡ m) where
-  pub place-got : {next : ℕ} → r ≡ place.Next next → m ≡ got 0 next
+module _ {m : Outcome ℕ} {r : Result ℕ Refusal} (e : place_says r ≡ m) where
+  pub place-got : {next : ℕ} → r ≡ Ok next → m ≡ got 0 next
   place-got q = sym e ∙ ap place_says q
 
-  pub place_no : {k p : ℕ} → r ≡ place.Not k p → m ≡ no k p
+  pub place_no : {f : Refusal} → r ≡ Err f → m ≡ no (number_of f.question) f.place
   place_no q = sym e ∙ ap place_says q
 
 -- an outcome from what was made of it, and back
@@ -84,15 +74,23 @@ kept (got a n) f = refl
 kept (no k l) f = refl
 
 -- a value forgotten, and the place of an answer
-module _ {A : Type 0} (m : Outcome A) {r : Place} (e : place_says r ≡ ended m) where
-  pub ended-got : {next : ℕ} → r ≡ place.Next next → (a : A) × (m ≡ got a next)
+module _ {A : Type 0} (m : Outcome A) {r : Result ℕ Refusal} (e : place_says r ≡ ended m) where
+  pub ended-got : {next : ℕ} → r ≡ Ok next → (a : A) × (m ≡ got a next)
   ended-got q = let g = through-got (λ _. 0) m (place-got e q) in (g.0, g.1)
 
-  pub ended_no : {k p : ℕ} → r ≡ place.Not k p → m ≡ no k p
+  pub ended_no : {f : Refusal} → r ≡ Err f → m ≡ no (number_of f.question) f.place
   ended_no q = through_no (λ _. 0) m (place_no e q)
 
+-- what is made of a value is known of the answer
+module _ {A B : Type 0} (f : A → B) (m : Outcome A) {r : Result (B × ℕ) Refusal} (e : read_says r ≡ through f m) where
+  pub made-got : {b : B} {next : ℕ} → r ≡ Ok (b, next) → (a : A) × (m ≡ got a next) × (f a ≡ b)
+  made-got q = through-got f m (read-got e q)
+
+  pub made_no : {g : Refusal} → r ≡ Err g → m ≡ no (number_of g.question) g.place
+  made_no q = through_no f m (read_no e q)
+
 -- a part whose value counts n, whatever it is
-pub one_made : {A B : Type 0} {n : ℕ} (m : Outcome A) (f : A → B) (g : B → ℕ) (r : Place) → place_says r ≡ ended m → ((a : A) → n ≡ g (f a)) →
+pub one_made : {A B : Type 0} {n : ℕ} (m : Outcome A) (f : A → B) (g : B → ℕ) (r : Result ℕ Refusal) → place_says r ≡ ended m → ((a : A) → n ≡ g (f a)) →
     through (λ _. n) (place_says r) ≡ through g (and_then m (λ a next. got (f a) next))
 unfolding through
 one_made {n = n} (got a next) f g r e h = ap (through (λ _. n)) e ∙ ap (λ (x : ℕ). got x next) (h a)
@@ -105,12 +103,12 @@ module _ {A B : Type 0} (none : B) (more : A → B → B) (one : Reader A) (s : 
   times_end zero at h = refl
   times_end (suc n) at h = absurd (omega arith)
 
-  pub times-stop : (n at : ℕ) {r : Place} {k p : ℕ} → 0 < n → place_says r ≡ ended (one s at) → r ≡ place.Not k p → no k p ≡ ended (times none more one n s at)
+  pub times-stop : (n at : ℕ) {r : Result ℕ Refusal} {f : Refusal} → 0 < n → place_says r ≡ ended (one s at) → r ≡ Err f → no (number_of f.question) f.place ≡ ended (times none more one n s at)
   unfolding times
   times-stop zero at h e q = absurd (omega arith)
   times-stop (suc n) at h e q = stop ended (one s at) _ (ended_no (one s at) e q) (refused _ refl)
 
-  pub times-step : (n at : ℕ) {r : Place} {next : ℕ} → 0 < n → place_says r ≡ ended (one s at) → r ≡ place.Next next →
+  pub times-step : (n at : ℕ) {r : Result ℕ Refusal} {next : ℕ} → 0 < n → place_says r ≡ ended (one s at) → r ≡ Ok next →
       ended (times none more one (n - 1) s next) ≡ ended (times none more one n s at)
   unfolding times
   times-step zero at h e q = absurd (omega arith)
@@ -134,9 +132,9 @@ pub remade : {A B C : Type 0} (f : A → B) (g : B → C) (h : A → C) (m : Out
 remade f g h m e = through_same h (λ a. g (f a)) m e ∙ through-through f g m
 
 -- the number of one of n: what was asked of n, said of its equal
-module _ (n m : ℕ) (s : List ℕ) (at : ℕ) {r : Field} (w : n ≡ m) (e : field_says r ≡ index n s at) where
-  pub index-got : {x next : ℕ} → r ≡ field.Is x next → index m s at ≡ got x next
-  index-got q = ap (λ (k : ℕ). index k s at) (sym w) ∙ field-got e q
+module _ (n m : ℕ) (s : List ℕ) (at : ℕ) {r : Result (ℕ × ℕ) Refusal} (w : n ≡ m) (e : read_says r ≡ index n s at) where
+  pub index-got : {x next : ℕ} → r ≡ Ok (x, next) → index m s at ≡ got x next
+  index-got q = ap (λ (k : ℕ). index k s at) (sym w) ∙ read-got e q
 
-  pub index_no : {k p : ℕ} → r ≡ field.Not k p → index m s at ≡ no k p
-  index_no q = ap (λ (k : ℕ). index k s at) (sym w) ∙ field_no e q
+  pub index_no : {f : Refusal} → r ≡ Err f → index m s at ≡ no (number_of f.question) f.place
+  index_no q = ap (λ (k : ℕ). index k s at) (sym w) ∙ read_no e q

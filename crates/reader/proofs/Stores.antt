@@ -9,7 +9,7 @@ use Rattle.model.specs.Tables.{Array, cells}
 use Rattle.reader.specs.Entries.{padded, cut, array_of, arrays_of, unpacked, threes, bases, packed}
 use Rattle.reader.specs.Parts.{Small, sizes, with_array}
 use Rattle.reader.specs.declared.tables.Tables.{Tables as Packed}
-use Rattle.reader.specs.declared.header.ArrayRead.{ArrayRead}
+use Rattle.reader.specs.declared.header.Array.{Array as Filled}
 use Rattle.reader.proofs.Lists.{length-padded, padded-set}
 
 map_append : {A B : Type 0} (f : A → B) (xs ys : List A) → map f (xs ++ ys) ≡ map f xs ++ map f ys
@@ -71,7 +71,7 @@ snoc_set f xs x k v e h w =
     ap (λ (u : ℕ). set (padded 16 0 (map f xs)) k u) w ∙ padded-set 16 0 (map f xs) k (f x) (length-map xs f ∙ e) h ∙ ap (padded 16 0) (sym (map_append f xs (x ∷ [])))
 
 -- one array more
-pub packed_more : (ops : List ℕ) (xs : List Array) (x : Array) (k : ℕ) (r : ArrayRead) (total : ℕ) → length xs ≡ k → k < 16 → Small xs → length x.extents ≤ 3 →
+pub packed_more : (ops : List ℕ) (xs : List Array) (x : Array) (k : ℕ) (r : Filled) (total : ℕ) → length xs ≡ k → k < 16 → Small xs → length x.extents ≤ 3 →
     r.role ≡ x.role → r.dimensions ≡ length x.extents → r.extents ≡ padded 3 0 x.extents → total ≡ sizes xs + cells x.extents →
     with_array (packed (record { operators = ops; arrays = xs })) k r total ≡ packed (record { operators = ops; arrays = xs ++ (x ∷ []) })
 unfolding with_array packed threes

@@ -1,17 +1,15 @@
 -- What the entries answer beyond the grammar: definitions for every depth and number of loops, and what stands in a result's fields.
-use Rattle.std.specs.Prelude.{ℕ, zero, suc, ◌+◌, ◌-◌, ◌*◌, ◌/◌, ◌%◌, ◌^◌, ◌≤◌, ◌<◌, min, List, [], ◌∷◌, ◌++◌, map, length, get_or, take, replicate, leb, eqb, ℤ, pos, ◌≡◌, if◌then◌else◌}
+use Rattle.std.specs.Prelude.{ℕ, zero, suc, ◌+◌, ◌-◌, ◌*◌, ◌/◌, ◌%◌, ◌^◌, ◌≤◌, ◌<◌, min, List, [], ◌∷◌, ◌++◌, map, length, get_or, take, replicate, leb, eqb, ℤ, pos, ◌≡◌, Result, Ok, Err, if◌then◌else◌}
 use Rattle.std.specs.Int.{w8}
 use Rattle.std.proofs.Common.{to_z}
 use Rattle.reader.specs.Field.{Outcome, got, no, Reader, ◌>>=◌, give, refuse, times}
 use Rattle.model.specs.Tables.{Array, Tables, cells, arity_at}
 use Rattle.reader.specs.Syntax.{Form, Expr, Items}
 use Rattle.reader.specs.Grammar.{tables, form, index, read_of, literal_of, constant_of, expression, body, sized}
-use Rattle.reader.specs.Answers.{placed}
-use Rattle.reader.specs.declared.fields.Place.{Place}
-use Rattle.reader.specs.declared.fields.Place.TheVariants as place
-use Rattle.reader.specs.declared.forms.FormRead.{FormRead}
+use Rattle.reader.specs.Answers.{refusal_says}
+use Rattle.model.specs.declared.question.Refusal.{Refusal}
+use Rattle.reader.specs.declared.forms.Form.{Form as Filled}
 use Rattle.reader.specs.declared.tables.Tables.{Tables as Packed}
-use Rattle.reader.specs.declared.tables.TablesRead.{TablesRead}
 
 -- n of them, z where the list has no more
 abbrev pub padded : {A : Type 0} → ℕ → A → List A → List A
@@ -53,23 +51,12 @@ items_step t left loops s at = shallow (loops + left) (body t (length s) left lo
 unfoldable pub tables_step : List ℕ → Outcome Tables
 tables_step s = sized tables s
 
-abbrev pub form_says : ℕ → FormRead → Outcome Form
-form_says loops r = placed r.answer (record { constant = r.constant; coefficients = take loops r.coefficients })
+-- the form that a `Form` of the code stands for inside so many loops, and the one that holds a form and zeros
+abbrev pub form_in : ℕ → Filled → Form
+form_in loops f = record { constant = f.constant; coefficients = take loops f.coefficients }
 
--- 0, and zeros, on a refusal
-abbrev pub constant_in : Outcome Form → ℤ
-constant_in (got f next) = f.constant
-constant_in (no number at) = pos 0
-
-abbrev pub coefficients_in : Outcome Form → List ℤ
-coefficients_in (got f next) = padded 8 (pos 0) f.coefficients
-coefficients_in (no number at) = replicate 8 (pos 0)
-
--- a form's answer says the outcome m, and its fields hold nothing else
-pub record FormIs (loops : ℕ) (m : Outcome Form) (r : FormRead) : Type 0 where
-  pub says : form_says loops r ≡ m
-  pub constant : r.constant ≡ constant_in m
-  pub coefficients : r.coefficients ≡ coefficients_in m
+abbrev pub filled : Form → Filled
+filled f = record { constant = f.constant; coefficients = padded 8 (pos 0) f.coefficients }
 
 -- what follows the code of a read, a literal or a constant at p
 unfoldable pub leaf_of : Tables → ℕ → ℕ → ℕ → Reader Expr
@@ -152,29 +139,7 @@ packed t =
       bases = padded 17 0 (bases 0 t.arrays);
     }
 
-unfoldable pub no_tables : Packed
-no_tables =
-    record {
-      operators = 0;
-      bytes = replicate 16 0;
-      arrays = 0;
-      roles = replicate 16 0;
-      dimensions = replicate 16 0;
-      extents = replicate 48 0;
-      bases = replicate 17 0;
-    }
-
--- all zeros on a refusal
-abbrev pub packed_in : Outcome Tables → Packed
-packed_in (got t next) = packed t
-packed_in (no number at) = no_tables
-
--- the answer says the outcome m, and the tables hold nothing else
-pub record TablesAre (m : Outcome Tables) (r : TablesRead) : Type 0 where
-  pub says : placed r.answer (unpacked r.tables) ≡ m
-  pub holds : r.tables ≡ packed_in m
-
 -- what follows a place that was found
-abbrev pub continued : Place → (ℕ → Outcome ℕ) → Outcome ℕ
-continued (place.Next next) f = f next
-continued (place.Not number at) f = no number at
+abbrev pub continued : Result ℕ Refusal → (ℕ → Outcome ℕ) → Outcome ℕ
+continued (Ok next) f = f next
+continued (Err e) f = refusal_says e

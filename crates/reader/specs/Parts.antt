@@ -5,12 +5,9 @@ use Rattle.model.specs.Tables.{Array, Tables, cells}
 use Rattle.reader.specs.Field.{Outcome, got, no, Reader, and_then, ◌>>=◌, give, here, ask, byte}
 use Rattle.reader.specs.Grammar.{arrays}
 use Rattle.reader.specs.Entries.{padded, packed}
-use Rattle.reader.specs.declared.fields.Place.TheVariants as place
 use Rattle.reader.specs.declared.tables.Tables.{Tables as Packed}
-use Rattle.reader.specs.declared.tables.TablesRead.{TablesRead}
-use Rattle.reader.specs.declared.header.OperatorsRead.{OperatorsRead}
-use Rattle.reader.specs.declared.header.ExtentsRead.{ExtentsRead}
-use Rattle.reader.specs.declared.header.ArrayRead.{ArrayRead}
+use Rattle.reader.specs.declared.header.Extents.{Extents}
+use Rattle.reader.specs.declared.header.Array.{Array as Filled}
 
 -- a byte with a question of its own
 unfoldable pub checked : ℕ → (ℕ → Bool) → Reader ℕ
@@ -36,19 +33,12 @@ array_table = do
 unfoldable pub tables_with : List ℕ → Outcome (List Array) → Outcome Tables
 tables_with ops m = and_then m (λ xs next. got (record { operators = ops; arrays = xs }) next)
 
-unfoldable pub OperatorsAre : ℕ → Outcome (List ℕ) → OperatorsRead → Type 0
-OperatorsAre n (got l next) r = (r.answer ≡ place.Next next) × (r.bytes ≡ padded 16 0 l) × (length l ≡ n)
-OperatorsAre n (no number at) r = r.answer ≡ place.Not number at
+-- extents as the code holds them, and an array
+abbrev pub extents_in : List ℕ → Extents
+extents_in l = record { extents = padded 3 0 l; size = cells l }
 
-unfoldable pub ExtentsAre : ℕ → Outcome (List ℕ) → ExtentsRead → Type 0
-ExtentsAre n (got l next) r = (r.answer ≡ place.Next next) × (r.extents ≡ padded 3 0 l) × (length l ≡ n) × (r.size ≡ cells l) × (r.size ≤ 1073741824)
-ExtentsAre n (no number at) r = r.answer ≡ place.Not number at
-
-unfoldable pub ArrayIs : ℕ → Outcome Array → ArrayRead → Type 0
-ArrayIs before (got x next) r =
-    (r.answer ≡ place.Next next) × (r.role ≡ x.role) × (r.role ≤ 3) × (r.dimensions ≡ length x.extents) × (r.dimensions ≤ 3)
-    × (r.extents ≡ padded 3 0 x.extents) × (r.size ≡ cells x.extents) × (before + r.size ≤ 2048)
-ArrayIs before (no number at) r = r.answer ≡ place.Not number at
+abbrev pub array_in : Array → Filled
+array_in x = record { role = x.role; dimensions = length x.extents; extents = padded 3 0 x.extents; size = cells x.extents }
 
 -- the cells of all
 unfoldable pub sizes : List Array → ℕ
@@ -60,12 +50,8 @@ unfoldable pub Small : List Array → Type 0
 Small [] = Unit {0}
 Small (x ∷ xs) = (length x.extents ≤ 3) × Small xs
 
-unfoldable pub ArraysAre : ℕ → List ℕ → Outcome (List Array) → TablesRead → Type 0
-ArraysAre n ops (got xs next) r = (r.answer ≡ place.Next next) × (r.tables ≡ packed (record { operators = ops; arrays = xs })) × (length xs ≡ n) × Small xs
-ArraysAre n ops (no number at) r = r.answer ≡ place.Not number at
-
 -- one array more, as number k; `total` cells with it
-unfoldable pub with_array : Packed → ℕ → ArrayRead → ℕ → Packed
+unfoldable pub with_array : Packed → ℕ → Filled → ℕ → Packed
 with_array t k x total =
     record {
       operators = t.operators;

@@ -1,9 +1,9 @@
 -- What is said of a whole file.
-use Rattle.std.specs.Prelude.{ℕ}
+use Rattle.std.specs.Prelude.{ℕ, Result, Ok, Err}
+use Rattle.model.specs.Questions.{number_of}
+use Rattle.model.specs.declared.question.Refusal.{Refusal}
 use Rattle.model.specs.Reply as reply
 use Rattle.reader.specs.Field.{Outcome, got, no}
-use Rattle.reader.specs.declared.Verdict.{Verdict}
-use Rattle.reader.specs.declared.Verdict.TheVariants as verdict
 
 -- a program alone is the left one
 pub data Said : Type 0 where
@@ -15,6 +15,6 @@ unfoldable pub said : {A : Type 0} → Outcome A → Said
 said (got a next) = accepted
 said (no number at) = refused reply.left number at
 
-abbrev pub verdict_says : Verdict → Said
-verdict_says verdict.Accepted = accepted
-verdict_says (verdict.Refused number at) = refused reply.left number at
+abbrev pub verdict_says : Result (Unit {0}) Refusal → Said
+verdict_says (Ok _) = accepted
+verdict_says (Err e) = refused reply.left (number_of e.question) e.place

@@ -1,10 +1,10 @@
 // The bytes of a program and a place in them, kept together. Each function is thin, and leaves work to a plain function of `fields`.
 ghost use Rattle.std.specs.Prelude.{◌≡◌, ◌-◌, length};
 ghost use Rattle.reader.specs.Field.{field, i16};
-ghost use Rattle.reader.specs.Answers.{field_says, signed_says};
+ghost use Rattle.reader.specs.Answers.{read_says};
 ghost use Rattle.reader.specs.Places.{bytes_in, standing};
 
-use crate::fields::{Field, Signed, Width, i16_at, left_at, number_at};
+use crate::fields::{Read, Width, i16_at, left_at, number_at};
 
 #[derive(Clone, Copy)]
 pub struct Reader<'a> {
@@ -34,15 +34,15 @@ impl<'a> Reader<'a> {
     }
 
     // The next field, unsigned.
-    pub fn number(self, width: Width) -> Field
-        ensures { field_says result ≡ field (bytes_in width) self.entry.src.now self.entry.at }
+    pub fn number(self, width: Width) -> Read<usize>
+        ensures { read_says result ≡ field (bytes_in width) self.entry.src.now self.entry.at }
     {
         number_at(self.src, self.at, width)
     }
 
     // The next field, two bytes of two's complement.
-    pub fn signed(self) -> Signed
-        ensures { signed_says result ≡ i16 self.entry.src.now self.entry.at }
+    pub fn signed(self) -> Read<i16>
+        ensures { read_says result ≡ i16 self.entry.src.now self.entry.at }
     {
         i16_at(self.src, self.at)
     }
@@ -56,8 +56,8 @@ impl<'a> Reader<'a> {
 }
 
 // The field of so many bytes that stands at a place.
-pub fn field_at(s: &[u8], at: usize, width: Width) -> Field
-    ensures { field_says result ≡ field (bytes_in width) s.now at }
+pub fn field_at(s: &[u8], at: usize, width: Width) -> Read<usize>
+    ensures { read_says result ≡ field (bytes_in width) s.now at }
 {
     Reader::new(s).moved(at).number(width)
 }

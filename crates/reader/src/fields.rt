@@ -4,39 +4,21 @@ ghost use Rattle.std.specs.Int.{w8, w16};
 ghost use Rattle.std.proofs.Common.{to_z};
 ghost use Rattle.reader.specs.Field.{field, byte, u16, u32, i16};
 ghost use Rattle.reader.specs.Grammar.{index, step};
-ghost use Rattle.reader.specs.Answers.{field_says, signed_says};
+ghost use Rattle.reader.specs.Answers.{read_says};
 ghost use Rattle.reader.specs.Places.{bytes_in};
 
-use model::byte::wide;
+use model::question::{Question, Refusal};
 
-// A number and the place past it, or a question's number and place.
-#[derive(Clone, Copy)]
-pub enum Field {
-    Is(usize, usize),
-    Not(u8, usize),
-}
-
-// A signed number and the place past it, or a refusal.
-#[derive(Clone, Copy)]
-pub enum Signed {
-    Is(i16, usize),
-    Not(u8, usize),
-}
+// What was read and the place past it, or the question that was answered no.
+pub type Read<T> = Result<(T, usize), Refusal>;
 
 // How many bytes an unsigned field has.
-#[derive(Clone, Copy)]
+#[derive(Clone, Copy, Debug, PartialEq, Eq)]
 pub enum Width {
     One,
     Two,
     Three,
     Four,
-}
-
-// The place past what was read, or a refusal.
-#[derive(Clone, Copy)]
-pub enum Place {
-    Next(usize),
-    Not(u8, usize),
 }
 
 // Two's complement of a byte.
@@ -96,57 +78,51 @@ pub(crate) fn quad(a: u8, b: u8, c: u8, d: u8) -> usize
     a as usize + 256 * (b as usize + 256 * (c as usize + 256 * (d as usize)))
 }
 
-fn widened(x: u16) -> usize
-    ensures { result ≡ x }
-{
-    x as usize
-}
-
-pub fn byte_at(s: &[u8], at: usize) -> Field
-    ensures { field_says result ≡ byte s.now at }
+pub fn byte_at(s: &[u8], at: usize) -> Read<usize>
+    ensures { read_says result ≡ byte s.now at }
 {
     if at < s.len() {
-        Field::Is(wide(s[at]), at + 1)
+        Ok((usize::from(s[at]), at + 1))
     } else {
-        Field::Not(3, at)
+        Err(Question::Cut.at(at))
     }
 }
 
-pub(crate) fn u16_at(s: &[u8], at: usize) -> Field
-    ensures { field_says result ≡ u16 s.now at }
+pub(crate) fn u16_at(s: &[u8], at: usize) -> Read<usize>
+    ensures { read_says result ≡ u16 s.now at }
 {
     if has(s, at, 2) {
-        Field::Is(widened(pair(s[at], s[at + 1])), at + 2)
+        Ok((usize::from(pair(s[at], s[at + 1])), at + 2))
     } else {
-        Field::Not(3, at)
+        Err(Question::Cut.at(at))
     }
 }
 
 // As wide as the mark.
-fn u24_at(s: &[u8], at: usize) -> Field
-    ensures { field_says result ≡ field 3 s.now at }
+fn u24_at(s: &[u8], at: usize) -> Read<usize>
+    ensures { read_says result ≡ field 3 s.now at }
 {
     if has(s, at, 3) {
-        Field::Is(triple(s[at], s[at + 1], s[at + 2]), at + 3)
+        Ok((triple(s[at], s[at + 1], s[at + 2]), at + 3))
     } else {
-        Field::Not(3, at)
+        Err(Question::Cut.at(at))
     }
 }
 
 // The name of a constant.
-pub fn name_at(s: &[u8], at: usize) -> Field
-    ensures { field_says result ≡ u32 s.now at }
+pub fn name_at(s: &[u8], at: usize) -> Read<usize>
+    ensures { read_says result ≡ u32 s.now at }
 {
     if has(s, at, 4) {
-        Field::Is(quad(s[at], s[at + 1], s[at + 2], s[at + 3]), at + 4)
+        Ok((quad(s[at], s[at + 1], s[at + 2], s[at + 3]), at + 4))
     } else {
-        Field::Not(3, at)
+        Err(Question::Cut.at(at))
     }
 }
 
 // An unsigned field of any width.
-pub(crate) fn number_at(s: &[u8], at: usize, width: Width) -> Field
-    ensures { field_says result ≡ field (bytes_in width) s.now at }
+pub(crate) fn number_at(s: &[u8], at: usize, width: Width) -> Read<usize>
+    ensures { read_says result ≡ field (bytes_in width) s.now at }
 {
     match width {
         Width::One => byte_at(s, at),
@@ -156,44 +132,36 @@ pub(crate) fn number_at(s: &[u8], at: usize, width: Width) -> Field
     }
 }
 
-pub(crate) fn i16_at(s: &[u8], at: usize) -> Signed
-    ensures { signed_says result ≡ i16 s.now at }
+pub(crate) fn i16_at(s: &[u8], at: usize) -> Read<i16>
+    ensures { read_says result ≡ i16 s.now at }
 {
     if has(s, at, 2) {
-        Signed::Is(i16_of(pair(s[at], s[at + 1])), at + 2)
+        Ok((i16_of(pair(s[at], s[at + 1])), at + 2))
     } else {
-        Signed::Not(3, at)
+        Err(Question::Cut.at(at))
     }
 }
 
 // The number of one of n arrays or operators.
-pub fn index_at(s: &[u8], at: usize, n: usize) -> Field
-    ensures { field_says result ≡ index n s.now at }
+pub fn index_at(s: &[u8], at: usize, n: usize) -> Read<usize>
+    ensures { read_says result ≡ index n s.now at }
 {
-    match byte_at(s, at) {
-        Field::Not(number, place) => Field::Not(number, place),
-        Field::Is(x, next) => {
-            if x < n {
-                Field::Is(x, next)
-            } else {
-                Field::Not(10, at)
-            }
-        }
+    let (x, next) = byte_at(s, at)?;
+    if x < n {
+        Ok((x, next))
+    } else {
+        Err(Question::Index.at(at))
     }
 }
 
 // A loop's step, not 0.
-pub fn step_at(s: &[u8], at: usize) -> Signed
-    ensures { signed_says result ≡ step s.now at }
+pub fn step_at(s: &[u8], at: usize) -> Read<i16>
+    ensures { read_says result ≡ step s.now at }
 {
-    if has(s, at, 2) {
-        let w = pair(s[at], s[at + 1]);
-        if w == 0 {
-            Signed::Not(11, at)
-        } else {
-            Signed::Is(i16_of(w), at + 2)
-        }
+    let (step, next) = i16_at(s, at)?;
+    if step == 0 {
+        Err(Question::Step.at(at))
     } else {
-        Signed::Not(3, at)
+        Ok((step, next))
     }
 }

@@ -1,34 +1,33 @@
 // Affine forms: a constant, and a coefficient for each enclosing loop.
 ghost use Rattle.std.specs.Prelude.{◌≡◌, ◌+◌, ◌*◌, ◌/◌, ◌%◌, ◌≤◌, ◌<◌, length, replicate, pos};
 ghost use Rattle.reader.specs.Grammar.{form};
-ghost use Rattle.reader.specs.Answers.{ended, place_says};
+ghost use Rattle.reader.specs.Answers.{through, ended, place_says, read_says};
 ghost use Rattle.std.specs.Int.{w8};
 ghost use Rattle.std.proofs.Common.{to_z};
-ghost use Rattle.reader.specs.Entries.{padded, signeds, bytes_of, Before, form_step, FormIs};
-ghost use Rattle.reader.specs.declared.fields.Place.TheVariants as place;
+ghost use Rattle.reader.specs.Entries.{padded, signeds, bytes_of, Before, form_step, form_in, filled};
 
-use crate::fields::{Place, has, i8_of, i16_of, left_at, pair, quad};
+use crate::fields::{Read, has, i8_of, i16_of, pair, quad};
+use model::question::{Question, Refusal};
 
-// A form beside the place past it. Coefficients beyond the loops are 0; on a refusal all is 0.
-#[derive(Clone, Copy)]
-pub struct FormRead {
-    pub answer: Place,
+// Coefficients beyond the loops are 0.
+#[derive(Clone, Copy, Debug, PartialEq, Eq)]
+pub struct Form {
     pub constant: i16,
     pub coefficients: [i8; 8],
 }
 
 // The end of a form. Each coefficient is a field of one byte, so the first that is missing stands at the end of the bytes.
-pub(crate) fn form_end(s: &[u8], at: usize, loops: usize) -> Place
+pub(crate) fn form_end(s: &[u8], at: usize, loops: usize) -> Result<usize, Refusal>
     ensures { place_says result ≡ ended (form loops s.now at) }
 {
     if has(s, at, 2) {
         if has(s, at + 2, loops) {
-            Place::Next(at + 2 + loops)
+            Ok(at + 2 + loops)
         } else {
-            Place::Not(3, s.len())
+            Err(Question::Cut.at(s.len()))
         }
     } else {
-        Place::Not(3, at)
+        Err(Question::Cut.at(at))
     }
 }
 
@@ -129,41 +128,18 @@ fn coefficients_of(s: &[u8], at: usize, loops: usize) -> [i8; 8]
     bytes_of((eight_before(s, at + loops) >> half) >> half)
 }
 
-fn no_form(number: u8, at: usize) -> FormRead
-    ensures { (result.answer ≡ place.Not number at) × (result.constant ≡ pos 0) × (result.coefficients ≡ replicate 8 (pos 0)) }
-{
-    FormRead {
-        answer: Place::Not(number, at),
-        constant: 0,
-        coefficients: [0i8; 8],
-    }
-}
-
-// Of a form that is not there whole: the first field that is missing.
-fn cut_form(s: &[u8], at: usize, loops: usize) -> FormRead
-    requires { (loops ≤ 8) × (length s.now < at + 2 + loops) }
-    ensures { FormIs loops (form_step loops s.now at) result }
-{
-    if has(s, at, 2) {
-        no_form(3, s.len())
-    } else {
-        no_form(3, at)
-    }
-}
-
 // A form inside so many loops, 8 at most.
-pub fn form_at(s: &[u8], at: usize, loops: usize) -> FormRead
-    ensures { FormIs loops (form_step loops s.now at) result }
+pub fn form_at(s: &[u8], at: usize, loops: usize) -> Read<Form>
+    ensures says { through (form_in loops) (read_says result) ≡ form_step loops s.now at }
+    ensures holds { read_says result ≡ through filled (form_step loops s.now at) }
 {
     if 8 < loops {
-        return no_form(12, at);
+        return Err(Question::Depth.at(at));
     }
-    if left_at(s, at) < 2 + loops {
-        return cut_form(s, at, loops);
-    }
-    FormRead {
-        answer: Place::Next(at + 2 + loops),
+    let end = form_end(s, at, loops)?;
+    let form = Form {
         constant: i16_of(pair(s[at], s[at + 1])),
         coefficients: coefficients_of(s, at + 2, loops),
-    }
+    };
+    Ok((form, end))
 }

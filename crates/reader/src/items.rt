@@ -3,61 +3,47 @@ ghost use Rattle.std.specs.Prelude.{◌≡◌, ℕ, ◌+◌, ◌≤◌, ◌<◌,
 ghost use Rattle.reader.specs.Field.{Reader};
 ghost use Rattle.reader.specs.Syntax.{Items};
 ghost use Rattle.reader.specs.Grammar.{statement_of, loop_of, item_of, nested, body};
-ghost use Rattle.reader.specs.Answers.{ended, place_says, field_says};
+ghost use Rattle.reader.specs.Answers.{ended, place_says};
 ghost use Rattle.reader.specs.Entries.{tables_in, continued, items_step};
 
 use crate::expressions::{expression_past, forms_past};
-use crate::fields::{Field, Place, Signed, index_at, step_at};
+use crate::fields::{index_at, step_at};
 use crate::forms::form_end;
 use crate::tables::{FlatTables, array_count, dimensions_of, role_of};
-
-// The place past a field.
-fn past(field: Field) -> Place
-    ensures { place_says result ≡ ended (field_says field) }
-{
-    match field {
-        Field::Not(number, place) => Place::Not(number, place),
-        Field::Is(_, next) => Place::Next(next),
-    }
-}
+use model::question::{Question, Refusal};
 
 // What follows a statement's code, wherever that stands.
-fn statement_end(s: &[u8], at: usize, tables: &FlatTables, loops: usize) -> Place
+fn statement_end(s: &[u8], at: usize, tables: &FlatTables, loops: usize) -> Result<usize, Refusal>
     ensures { (p : ℕ) → place_says result ≡ ended (statement_of (tables_in tables.now) loops p s.now at) }
 {
-    match index_at(s, at, array_count(tables)) {
-        Field::Not(number, place) => Place::Not(number, place),
-        Field::Is(array, next) => {
-            if role_of(tables, array) == 0 {
-                return Place::Not(13, at);
-            }
-            match forms_past(s, next, loops, dimensions_of(tables, array)) {
-                Place::Not(number, place) => Place::Not(number, place),
-                Place::Next(source) => past(expression_past(s, source, tables, loops)),
-            }
-        }
+    let (array, next) = index_at(s, at, array_count(tables))?;
+    if role_of(tables, array) == 0 {
+        return Err(Question::Target.at(at));
     }
+    let source = forms_past(s, next, loops, dimensions_of(tables, array))?;
+    let (_, end) = expression_past(s, source, tables, loops)?;
+    Ok(end)
 }
 
 // A loop's start, end and step: where its own items, whatever reads them, begin.
-fn loop_head_end(s: &[u8], at: usize, loops: usize) -> Place
+fn loop_head_end(s: &[u8], at: usize, loops: usize) -> Result<usize, Refusal>
     ensures { (own : Reader Items) (p : ℕ) → continued result (λ next. ended (own s.now next)) ≡ ended (loop_of loops own p s.now at) }
 {
-    match form_end(s, at, loops) {
-        Place::Not(number, place) => Place::Not(number, place),
-        Place::Next(end) => match form_end(s, end, loops) {
-            Place::Not(number, place) => Place::Not(number, place),
-            Place::Next(step) => match step_at(s, step) {
-                Signed::Not(number, place) => Place::Not(number, place),
-                Signed::Is(_, next) => Place::Next(next),
-            },
-        },
-    }
+    let end = form_end(s, at, loops)?;
+    let step = form_end(s, end, loops)?;
+    let (_, next) = step_at(s, step)?;
+    Ok(next)
 }
 
 // The items from `at` on, inside so many loops, where loops and guards may still nest `left` deep.
 #[cycle(around_item_run)]
-fn run(s: &[u8], at: usize, tables: &FlatTables, left: usize, loops: usize) -> Place
+fn run(
+    s: &[u8],
+    at: usize,
+    tables: &FlatTables,
+    left: usize,
+    loops: usize,
+) -> Result<usize, Refusal>
     requires { loops + left ≤ 8 }
     ensures { place_says result ≡ ended (body (tables_in tables.now) (length s.now) left loops s.now at) }
 {
@@ -65,65 +51,73 @@ fn run(s: &[u8], at: usize, tables: &FlatTables, left: usize, loops: usize) -> P
     while place < s.len() {
         let code = s[place];
         if code == 0 {
-            return Place::Next(place + 1);
+            return Ok(place + 1);
         }
-        match item(s, place, code, tables, left, loops) {
-            Place::Not(number, p) => {
-                return Place::Not(number, p);
-            }
-            Place::Next(next) => {
-                place = next;
-            }
-        }
+        place = item(s, place, code, tables, left, loops)?;
     }
-    Place::Not(3, place)
+    Err(Question::Cut.at(place))
 }
 
 // What follows an item's code, which stands at `at`.
 #[cycle(around_item_run)]
-fn item(s: &[u8], at: usize, code: u8, tables: &FlatTables, left: usize, loops: usize) -> Place
+fn item(
+    s: &[u8],
+    at: usize,
+    code: u8,
+    tables: &FlatTables,
+    left: usize,
+    loops: usize,
+) -> Result<usize, Refusal>
     requires { (loops + left ≤ 8) × (at < length s.now) }
     ensures { place_says result ≡ ended (item_of (tables_in tables.now) (length s.now) (nested (tables_in tables.now) (length s.now) left loops) loops code at s.now (at + 1)) }
 {
     match code {
         1 => statement_end(s, at + 1, tables, loops),
-        2 => around(s, at, code, tables, left, loops),
-        3 => around(s, at, code, tables, left, loops),
-        _ => Place::Not(9, at),
+        2 | 3 => around(s, at, code, tables, left, loops),
+        _ => Err(Question::Code.at(at)),
     }
 }
 
 // What follows the code of a loop (2) or a guard (3) at `at`: its forms, and a run of its own.
 #[cycle(around_item_run)]
-fn around(s: &[u8], at: usize, code: u8, tables: &FlatTables, left: usize, loops: usize) -> Place
+fn around(
+    s: &[u8],
+    at: usize,
+    code: u8,
+    tables: &FlatTables,
+    left: usize,
+    loops: usize,
+) -> Result<usize, Refusal>
     requires { (loops + left ≤ 8) × (at < length s.now) }
     ensures { place_says result ≡ ended (nested (tables_in tables.now) (length s.now) left loops code at s.now (at + 1)) }
 {
     if left == 0 {
-        return Place::Not(12, at);
+        return Err(Question::Depth.at(at));
     }
     if code == 2 {
-        match loop_head_end(s, at + 1, loops) {
-            Place::Not(number, place) => Place::Not(number, place),
-            Place::Next(next) => run(s, next, tables, left - 1, loops + 1),
-        }
+        let next = loop_head_end(s, at + 1, loops)?;
+        run(s, next, tables, left - 1, loops + 1)
     } else {
-        match form_end(s, at + 1, loops) {
-            Place::Not(number, place) => Place::Not(number, place),
-            Place::Next(next) => run(s, next, tables, left - 1, loops),
-        }
+        let next = form_end(s, at + 1, loops)?;
+        run(s, next, tables, left - 1, loops)
     }
 }
 
 // The end of a run of items inside so many loops, where loops and guards may still nest `left` deep. More than 8 together is 12.
-pub fn items_end(s: &[u8], at: usize, tables: &FlatTables, left: usize, loops: usize) -> Place
+pub fn items_end(
+    s: &[u8],
+    at: usize,
+    tables: &FlatTables,
+    left: usize,
+    loops: usize,
+) -> Result<usize, Refusal>
     ensures { place_says result ≡ ended (items_step (tables_in tables.now) left loops s.now at) }
 {
     if 8 < left {
-        return Place::Not(12, at);
+        return Err(Question::Depth.at(at));
     }
     if 8 - left < loops {
-        return Place::Not(12, at);
+        return Err(Question::Depth.at(at));
     }
     run(s, at, tables, left, loops)
 }

@@ -6,10 +6,10 @@ ghost use Rattle.std.specs.Prelude.{◌≡◌};
 ghost use Rattle.reader.specs.Grammar.{read_program};
 ghost use Rattle.reader.specs.Verdicts.{said, verdict_says};
 
-use crate::fields::Place;
 use crate::header::tables_of;
 use crate::items::items_end;
 use crate::tables::flat;
+use model::question::{Question, Refusal};
 
 pub mod cursor;
 pub mod expressions;
@@ -19,32 +19,16 @@ pub mod header;
 pub mod items;
 pub mod tables;
 
-// Whether a file is a program: accepted, or a question's number and place. A program alone is the left one (`verdict_says`).
-#[derive(Clone, Copy)]
-pub enum Verdict {
-    Accepted,
-    Refused(u8, usize),
-}
-
-pub fn read_program(program: &[u8]) -> Verdict
+// Whether a file is a program, or the question that was answered no. A program alone is the left one (`verdict_says`).
+pub fn read_program(program: &[u8]) -> Result<(), Refusal>
     ensures { verdict_says result ≡ said (read_program program.now) }
 {
-    let read = tables_of(program);
-    let answer = read.answer;
-    match answer {
-        Place::Not(number, place) => Verdict::Refused(number, place),
-        Place::Next(at) => {
-            let tables = flat(read.tables);
-            match items_end(program, at, &tables, 8, 0) {
-                Place::Not(number, place) => Verdict::Refused(number, place),
-                Place::Next(end) => {
-                    if end == program.len() {
-                        Verdict::Accepted
-                    } else {
-                        Verdict::Refused(14, end)
-                    }
-                }
-            }
-        }
+    let (tables, at) = tables_of(program)?;
+    let tables = flat(tables);
+    let end = items_end(program, at, &tables, 8, 0)?;
+    if end == program.len() {
+        Ok(())
+    } else {
+        Err(Question::Rest.at(end))
     }
 }

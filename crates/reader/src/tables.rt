@@ -5,7 +5,6 @@ ghost use Rattle.std.proofs.lemmas.List.Edits.{sets};
 ghost use Rattle.model.specs.Tables.{array_at, arity_at};
 ghost use Rattle.reader.specs.Entries.{cut, viewed, tables_in, flattened};
 
-use crate::fields::Place;
 use model::byte::wide;
 use model::numbers::least;
 use model::operator::arity;
@@ -19,7 +18,7 @@ pub type FlatTables = [usize; FLAT];
 
 // Entries beyond the counts are 0. bytes[o] is the byte of operator o; the extents of array a stand at 3a; bases[a] is the number
 // of cells before array a, bases[arrays] that of all.
-#[derive(Clone, Copy)]
+#[derive(Clone, Copy, Debug, PartialEq, Eq)]
 pub struct Tables {
     pub operators: usize,
     pub bytes: [u8; 16],
@@ -28,13 +27,6 @@ pub struct Tables {
     pub dimensions: [u8; 16],
     pub extents: [u16; 48],
     pub bases: [usize; 17],
-}
-
-// Tables beside the place of the first item; all zeros on a refusal.
-#[derive(Clone, Copy)]
-pub struct TablesRead {
-    pub answer: Place,
-    pub tables: Tables,
 }
 
 fn wide_word(x: u16) -> usize
