@@ -78,6 +78,7 @@ pub(crate) fn quad(a: u8, b: u8, c: u8, d: u8) -> usize
     a as usize + 256 * (b as usize + 256 * (c as usize + 256 * (d as usize)))
 }
 
+#[tactic(auto, unfolding(crate::specs::Field::byte, crate::specs::Field::field))]
 pub fn byte_at(s: &[u8], at: usize) -> Read<usize>
     ensures { read_says result ≡ byte s.now at }
 {
@@ -88,6 +89,7 @@ pub fn byte_at(s: &[u8], at: usize) -> Read<usize>
     }
 }
 
+#[tactic(auto, unfolding(crate::specs::Field::u16, crate::specs::Field::field))]
 pub(crate) fn u16_at(s: &[u8], at: usize) -> Read<usize>
     ensures { read_says result ≡ u16 s.now at }
 {
@@ -99,6 +101,7 @@ pub(crate) fn u16_at(s: &[u8], at: usize) -> Read<usize>
 }
 
 // As wide as the mark.
+#[tactic(auto, unfolding(crate::specs::Field::field))]
 fn u24_at(s: &[u8], at: usize) -> Read<usize>
     ensures { read_says result ≡ field 3 s.now at }
 {
@@ -110,6 +113,7 @@ fn u24_at(s: &[u8], at: usize) -> Read<usize>
 }
 
 // The name of a constant.
+#[tactic(auto, unfolding(crate::specs::Field::u32, crate::specs::Field::field))]
 pub fn name_at(s: &[u8], at: usize) -> Read<usize>
     ensures { read_says result ≡ u32 s.now at }
 {
@@ -121,6 +125,7 @@ pub fn name_at(s: &[u8], at: usize) -> Read<usize>
 }
 
 // An unsigned field of any width.
+#[tactic(auto, unfolding(crate::specs::Field::byte, crate::specs::Field::u16, crate::specs::Field::u32))]
 pub(crate) fn number_at(s: &[u8], at: usize, width: Width) -> Read<usize>
     ensures { read_says result ≡ field (bytes_in width) s.now at }
 {
@@ -132,6 +137,7 @@ pub(crate) fn number_at(s: &[u8], at: usize, width: Width) -> Read<usize>
     }
 }
 
+#[tactic(auto, unfolding(crate::specs::Field::i16, crate::specs::Field::u16, crate::specs::Field::field))]
 pub(crate) fn i16_at(s: &[u8], at: usize) -> Read<i16>
     ensures { read_says result ≡ i16 s.now at }
 {
@@ -143,6 +149,7 @@ pub(crate) fn i16_at(s: &[u8], at: usize) -> Read<i16>
 }
 
 // The number of one of n arrays or operators.
+#[tactic(auto, unfolding(crate::specs::Grammar::index))]
 pub fn index_at(s: &[u8], at: usize, n: usize) -> Read<usize>
     ensures { read_says result ≡ index n s.now at }
 {
@@ -155,6 +162,7 @@ pub fn index_at(s: &[u8], at: usize, n: usize) -> Read<usize>
 }
 
 // A loop's step, not 0.
+#[tactic(auto, unfolding(crate::specs::Grammar::step))]
 pub fn step_at(s: &[u8], at: usize) -> Read<i16>
     ensures { read_says result ≡ step s.now at }
 {
