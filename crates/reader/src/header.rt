@@ -17,6 +17,7 @@ use model::question::Question;
 use model::sizes::{MOST_BYTES, MOST_CELLS};
 
 // The mark `ALP` and the version, 1 or 2.
+#[tactic(auto, unfolding(crate::specs::Grammar::head, crate::specs::Field::u16))]
 fn head_at(s: &[u8], at: usize) -> Read<usize>
     ensures { read_says result ≡ head s.now at }
 {
@@ -32,6 +33,7 @@ fn head_at(s: &[u8], at: usize) -> Read<usize>
 }
 
 // An operator's byte.
+#[tactic(auto, unfolding(crate::specs::Parts::checked, crate::specs::Field::byte))]
 fn operator_byte_at(s: &[u8], at: usize, version: usize) -> Read<usize>
     ensures { read_says result ≡ checked 6 (operator_in version) s.now at }
 {
@@ -59,6 +61,7 @@ fn operators_at(s: &[u8], at: usize, version: usize, n: usize) -> Read<[u8; 16]>
 }
 
 // A role, where a local came just before it or not.
+#[tactic(auto, unfolding(crate::specs::Parts::checked, crate::specs::Field::byte))]
 fn role_at(s: &[u8], at: usize, after: bool) -> Read<usize>
     ensures { read_says result ≡ checked 7 (role_test after) s.now at }
 {
@@ -71,6 +74,7 @@ fn role_at(s: &[u8], at: usize, after: bool) -> Read<usize>
 }
 
 // A count from `low` to `high`; else the question is answered no.
+#[tactic(auto, unfolding(crate::specs::Parts::checked, crate::specs::Field::byte))]
 fn count_at(s: &[u8], at: usize, question: Question, low: usize, high: usize) -> Read<usize>
     ensures { read_says result ≡ checked (number_of question) (within low high) s.now at }
 {
@@ -82,6 +86,7 @@ fn count_at(s: &[u8], at: usize, question: Question, low: usize, high: usize) ->
     }
 }
 
+#[tactic(auto, unfolding(crate::specs::Grammar::extent, crate::specs::Field::u16))]
 fn extent_at(s: &[u8], at: usize) -> Read<usize>
     ensures { read_says result ≡ extent s.now at }
 {
@@ -145,6 +150,7 @@ fn array_at(s: &[u8], at: usize, after: bool, before: usize) -> Read<Array>
 }
 
 // One array more, as number k; `total` cells with it.
+#[tactic(auto, unfolding(crate::specs::Parts::with_array))]
 fn with_array(tables: Tables, k: usize, x: Array, total: usize) -> Tables
     requires { (k < 16) × (x.role ≤ 3) × (x.dimensions ≤ 3) }
     ensures { result ≡ with_array «tables» k x total }
