@@ -12,3 +12,4 @@ pub mod Stores
 pub mod Flattened
 pub mod Laws
 pub mod Questions
+pub mod Heads

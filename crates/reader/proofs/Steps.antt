@@ -2,16 +2,21 @@
 use mathlib.Core.Path.{◌≡◌, refl, sym, ap, ◌∙◌}
 use Prim.Native.Nat.{ℕ, zero, suc, ◌-◌, ◌<◌, ◌≤◌}
 use mathlib.Core.List.{List}
-use mathlib.Core.Bool.{Bool, true, false}
+use mathlib.Core.Bool.{Bool, true, false, false≢true}
 use native.Mathlib.Omega.{arith}
 use native.Mathlib.Numerals.{sub-one}
 use lib.IntN.{ℤ}
-use Rattle.std.specs.Prelude.{Result, Ok, Err}
+use Rattle.std.specs.Prelude.{Result, Ok, Err, IsErr, IsErrAnd}
 use Rattle.model.specs.Questions.{number_of}
 use Rattle.model.specs.declared.question.Refusal.{Refusal}
 use Rattle.reader.specs.Field.{Outcome, got, no, Reader, and_then, ask, times}
 use Rattle.reader.specs.Grammar.{index}
 use Rattle.reader.specs.Answers.{through, ended, read_says, place_says}
+
+-- a refusal that `?` hands on
+pub handed : {A : Type 0} {r : Result A Refusal} {e : Refusal} → IsErr r × IsErrAnd r (λ f. f ≡ e) → r ≡ Err e
+handed {r = Ok x} h = absurd (false≢true h.0)
+handed {r = Err f} h = ap Err h.1
 
 -- what a reader said, from the case of the answer that code matched on
 module _ {A : Type 0} {m : Outcome A} {r : Result (A × ℕ) Refusal} (e : read_says r ≡ m) where

@@ -33,13 +33,13 @@ fn head_at(s: &[u8], at: usize) -> Read<usize>
 }
 
 // An operator's byte.
-#[tactic(auto, unfolding(crate::specs::Parts::checked, crate::specs::Field::byte))]
-fn operator_byte_at(s: &[u8], at: usize, version: usize) -> Read<usize>
-    ensures { read_says result ≡ checked 6 (operator_in version) s.now at }
+#[tactic(auto, using(model::proofs::Operators::in_small), unfolding(crate::specs::Grammar::operator_of, crate::specs::Field::byte))]
+fn operator_byte_at(s: &[u8], at: usize, version: usize) -> Read<u8>
+    ensures { read_says result ≡ operator_of version s.now at }
 {
     let (x, next) = field_at(s, at, Width::One)?;
     if is_operator(version, x) {
-        Ok((x, next))
+        Ok((x as u8, next))
     } else {
         Err(Question::Operator.at(at))
     }
@@ -54,7 +54,7 @@ fn operators_at(s: &[u8], at: usize, version: usize, n: usize) -> Read<[u8; 16]>
     let mut place = at;
     for k in 0..n {
         let (x, next) = operator_byte_at(s, place, version)?;
-        bytes[k] = x as u8;
+        bytes[k] = x;
         place = next;
     }
     Ok((bytes, place))
@@ -62,12 +62,12 @@ fn operators_at(s: &[u8], at: usize, version: usize, n: usize) -> Read<[u8; 16]>
 
 // A role, where a local came just before it or not.
 #[tactic(auto, unfolding(crate::specs::Parts::checked, crate::specs::Field::byte))]
-fn role_at(s: &[u8], at: usize, after: bool) -> Read<usize>
+fn role_at(s: &[u8], at: usize, after: bool) -> Read<u8>
     ensures { read_says result ≡ checked 7 (role_test after) s.now at }
 {
     let (x, next) = field_at(s, at, Width::One)?;
     if x == 3 || x < 3 && !after {
-        Ok((x, next))
+        Ok((x as u8, next))
     } else {
         Err(Question::Array.at(at))
     }
@@ -87,12 +87,12 @@ fn count_at(s: &[u8], at: usize, question: Question, low: usize, high: usize) ->
 }
 
 #[tactic(auto, unfolding(crate::specs::Grammar::extent, crate::specs::Field::u16))]
-fn extent_at(s: &[u8], at: usize) -> Read<usize>
+fn extent_at(s: &[u8], at: usize) -> Read<u16>
     ensures { read_says result ≡ extent s.now at }
 {
     let (x, next) = field_at(s, at, Width::Two)?;
     if 1 <= x && x <= 1024 {
-        Ok((x, next))
+        Ok((x as u16, next))
     } else {
         Err(Question::Array.at(at))
     }
@@ -114,8 +114,8 @@ fn extents_at(s: &[u8], at: usize, n: usize) -> Read<Extents>
     let mut place = at;
     for k in 0..n {
         let (x, next) = extent_at(s, place)?;
-        extents[k] = x as u16;
-        size *= x;
+        extents[k] = x;
+        size *= usize::from(x);
         place = next;
     }
     Ok((Extents { extents, size }, place))
@@ -123,7 +123,7 @@ fn extents_at(s: &[u8], at: usize, n: usize) -> Read<Extents>
 
 #[derive(Clone, Copy, Debug, PartialEq, Eq)]
 struct Array {
-    role: usize,
+    role: u8,
     dimensions: usize,
     extents: [u16; 3],
     size: usize,
@@ -152,12 +152,12 @@ fn array_at(s: &[u8], at: usize, after: bool, before: usize) -> Read<Array>
 // One array more, as number k; `total` cells with it.
 #[tactic(auto, unfolding(crate::specs::Parts::with_array))]
 fn with_array(tables: Tables, k: usize, x: Array, total: usize) -> Tables
-    requires { (k < 16) × (x.role ≤ 3) × (x.dimensions ≤ 3) }
+    requires { (k < 16) × (x.dimensions ≤ 3) }
     ensures { result ≡ with_array «tables» k x total }
 {
     let mut all = tables;
     all.arrays = k + 1;
-    all.roles[k] = x.role as u8;
+    all.roles[k] = x.role;
     all.dimensions[k] = x.dimensions as u8;
     let extents = x.extents;
     all.extents[3 * k] = extents[0];

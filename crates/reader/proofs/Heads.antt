@@ -1,0 +1,59 @@
+-- Steps of the proofs about the head of a file: things in a row that a loop stores.
+use mathlib.Core.Path.{◌≡◌, refl, sym, ap, ◌∙◌}
+use Prim.Native.Nat.{ℕ, zero, suc, ◌+◌, ◌≤◌, ◌<◌}
+use mathlib.Core.List.{List, [], ◌∷◌}
+use native.Mathlib.Omega.{arith}
+use native.Mathlib.Nat.{zero-add}
+use lib.ListN.{length, replicate, length-replicate}
+use Rattle.std.specs.Prelude.{Result, Ok, Err}
+use Rattle.std.proofs.lemmas.List.{drop-replicate}
+use Rattle.std.proofs.lemmas.List.Edits.{sets, sets-eq}
+use Rattle.model.specs.declared.question.Refusal.{Refusal}
+use Rattle.reader.specs.Field.{Outcome, got, no, Reader, times}
+use Rattle.reader.specs.Answers.{through, read_says, refusal_says}
+use Rattle.reader.specs.Entries.{padded}
+use Rattle.reader.proofs.Forward.{Held, held_then}
+use Rattle.reader.proofs.Steps.{read-got, read_no, remade}
+
+any : {A : Type 0} (m : Outcome A) → Held (λ _ _. Unit {0}) m
+any (got a next) = tt
+any (no k p) = tt
+
+-- what is made of a value, where something is known of it
+through_held : {A B : Type 0} (P : A → ℕ → Type 0) (f g : A → B) (m : Outcome A) → Held P m → ((a : A) (next : ℕ) → P a next → f a ≡ g a) → through f m ≡ through g m
+unfolding through
+through_held P f g (got a next) h e = ap (λ (b : _). got b next) (e a next h)
+through_held P f g (no k p) h e = refl
+
+pub padded_sets : {A : Type 0} (n : ℕ) (z : A) (l : List A) → length l ≤ n → sets (replicate n z) 0 l ≡ padded n z l
+padded_sets n z l h = sets-eq l (replicate n z) 0 (simp length-replicate (omega arith)) ∙ rw (drop-replicate, zero-add)
+
+-- things in a row, and what a loop makes of those that are left
+module _ {A : Type 0} (one : Reader A) (s : List ℕ) where
+  pub row-held : (n at : ℕ) → Held (λ l _. length l ≡ n) (times [] ◌∷◌ one n s at)
+  unfolding times
+  row-held zero at = refl
+  row-held (suc n) at =
+      held_then (λ _ _. Unit {0}) (λ l _. length l ≡ suc n) (one s at) _ (any (one s at)) λ x p _.
+      held_then (λ l _. length l ≡ n) (λ l _. length l ≡ suc n) (times [] ◌∷◌ one n s p) _ (row-held n p) λ l q e. omega arith
+
+  module _ {B : Type 0} (f g : List A → B) where
+    pub row_start : (n m at : ℕ) → m ≡ n → ((l : List A) → length l ≡ n → g l ≡ f l) → through g (times [] ◌∷◌ one m s at) ≡ through f (times [] ◌∷◌ one n s at)
+    row_start n m at w h = rw w (through_held (λ l _. length l ≡ n) g f _ (row-held n at) λ l q. h l)
+
+    pub row_more : (n m at : ℕ) {r : Result (A × ℕ) Refusal} {x : A} {next : ℕ} → read_says r ≡ one s at → r ≡ Ok (x, next) → n ≡ suc m → ((l : List A) → g l ≡ f (x ∷ l)) →
+        through g (times [] ◌∷◌ one m s next) ≡ through f (times [] ◌∷◌ one n s at)
+    unfolding times
+    row_more zero m at e q w h = absurd (omega arith)
+    row_more (suc n) m at e q w h = let v : n ≡ m = omega arith in rw (read-got e q, v) (remade _ f g (times [] ◌∷◌ one m s _) h)
+
+  module _ {B : Type 0} (f : List A → B) where
+    pub row_none : (n at : ℕ) → n ≡ 0 → got (f []) at ≡ through f (times [] ◌∷◌ one n s at)
+    unfolding times through
+    row_none zero at h = refl
+    row_none (suc n) at h = absurd (omega arith)
+
+    pub row-stop : (n at : ℕ) {r : Result (A × ℕ) Refusal} {e : Refusal} → 0 < n → read_says r ≡ one s at → r ≡ Err e → refusal_says e ≡ through f (times [] ◌∷◌ one n s at)
+    unfolding times through
+    row-stop zero at h e q = absurd (omega arith)
+    row-stop (suc n) at h e q = rw (read_no e q)
