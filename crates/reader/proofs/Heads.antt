@@ -1,9 +1,10 @@
 -- Steps of the proofs about the head of a file: things in a row that a loop stores.
 use mathlib.Core.Path.{◌≡◌, refl, sym, ap, ◌∙◌}
-use Prim.Native.Nat.{ℕ, zero, suc, ◌+◌, ◌≤◌, ◌<◌}
+use Prim.Native.Nat.{ℕ, zero, suc, ◌+◌, ◌*◌, ◌^◌, ◌≤◌, ◌<◌}
 use mathlib.Core.List.{List, [], ◌∷◌}
 use native.Mathlib.Omega.{arith}
-use native.Mathlib.Nat.{zero-add}
+use native.Mathlib.Nat.{zero-add, mul-le-mul, pow-le-pow_right}
+use native.Mathlib.Numerals.{unary_clauses}
 use lib.ListN.{length, replicate, length-replicate}
 use Rattle.std.specs.Prelude.{Result, Ok, Err}
 use Rattle.std.proofs.lemmas.List.{drop-replicate}
@@ -48,12 +49,19 @@ module _ {A : Type 0} (one : Reader A) (s : List ℕ) where
     row_more (suc n) m at e q w h = let v : n ≡ m = omega arith in rw (read-got e q, v) (remade _ f g (times [] ◌∷◌ one m s _) h)
 
   module _ {B : Type 0} (f : List A → B) where
-    pub row_none : (n at : ℕ) → n ≡ 0 → got (f []) at ≡ through f (times [] ◌∷◌ one n s at)
+    pub row_none : {b : B} (n at : ℕ) → n ≡ 0 → b ≡ f [] → got b at ≡ through f (times [] ◌∷◌ one n s at)
     unfolding times through
-    row_none zero at h = refl
-    row_none (suc n) at h = absurd (omega arith)
+    row_none zero at h e = rw e
+    row_none (suc n) at h e = absurd (omega arith)
 
     pub row-stop : (n at : ℕ) {r : Result (A × ℕ) Refusal} {e : Refusal} → 0 < n → read_says r ≡ one s at → r ≡ Err e → refusal_says e ≡ through f (times [] ◌∷◌ one n s at)
     unfolding times through
     row-stop zero at h e q = absurd (omega arith)
     row-stop (suc n) at h e q = rw (read_no e q)
+
+-- at most three extents, of at most 1,024
+pub size_more : (k size x : ℕ) → size ≤ 1024 ^ k → x ≤ 1024 → size * x ≤ 1024 ^ (k + 1)
+size_more k size x h w = simp unary_clauses (mul-le-mul h w)
+
+pub size_below : (k size : ℕ) → k ≤ 3 → size ≤ 1024 ^ k → size ≤ 1073741824
+size_below k size h w = omega (arith, pow-le-pow_right {n = 1024} (omega arith) h)

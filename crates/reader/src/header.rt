@@ -1,5 +1,5 @@
 // The head of a file: mark, version, operator table and array table, up to the first item. Its fields are read through `cursor`.
-ghost use Rattle.std.specs.Prelude.{◌≡◌, ℕ, ◌≤◌, ◌<◌, List, [], ◌∷◌, false, length};
+ghost use Rattle.std.specs.Prelude.{◌≡◌, ℕ, ◌+◌, ◌≤◌, ◌<◌, List, [], ◌∷◌, false, length, IfOk};
 ghost use Rattle.model.specs.Questions.{number_of};
 ghost use Rattle.model.specs.Test.{within};
 ghost use Rattle.model.specs.Tables.{operator_in};
@@ -76,7 +76,8 @@ fn role_at(s: &[u8], at: usize, after: bool) -> Read<u8>
 // A count from `low` to `high`; else the question is answered no.
 #[tactic(auto, unfolding(crate::specs::Parts::checked, crate::specs::Field::byte))]
 fn count_at(s: &[u8], at: usize, question: Question, low: usize, high: usize) -> Read<usize>
-    ensures { read_says result ≡ checked (number_of question) (within low high) s.now at }
+    ensures says { read_says result ≡ checked (number_of question) (within low high) s.now at }
+    ensures most { IfOk result (λ r. r.0 ≤ high) }
 {
     let (x, next) = field_at(s, at, Width::One)?;
     if low <= x && x <= high {
@@ -88,7 +89,8 @@ fn count_at(s: &[u8], at: usize, question: Question, low: usize, high: usize) ->
 
 #[tactic(auto, unfolding(crate::specs::Grammar::extent, crate::specs::Field::u16))]
 fn extent_at(s: &[u8], at: usize) -> Read<u16>
-    ensures { read_says result ≡ extent s.now at }
+    ensures says { read_says result ≡ extent s.now at }
+    ensures most { IfOk result (λ r. r.0 ≤ 1024) }
 {
     let (x, next) = field_at(s, at, Width::Two)?;
     if 1 <= x && x <= 1024 {
@@ -107,7 +109,8 @@ struct Extents {
 
 fn extents_at(s: &[u8], at: usize, n: usize) -> Read<Extents>
     requires { n ≤ 3 }
-    ensures { read_says result ≡ through extents_in (times [] ◌∷◌ extent n s.now at) }
+    ensures says { read_says result ≡ through extents_in (times [] ◌∷◌ extent n s.now at) }
+    ensures most { IfOk result (λ r. r.0.size ≤ 1073741824) }
 {
     let mut extents = [0u16; 3];
     let mut size: usize = 1;
@@ -132,7 +135,8 @@ struct Array {
 // An array, where a local came just before it or not, and so many cells before it.
 fn array_at(s: &[u8], at: usize, after: bool, before: usize) -> Read<Array>
     requires { before ≤ 2048 }
-    ensures { read_says result ≡ through array_in (array_reader after before s.now at) }
+    ensures says { read_says result ≡ through array_in (array_reader after before s.now at) }
+    ensures most { IfOk result (λ r. (r.0.dimensions ≤ 3) × (before + r.0.size ≤ 2048)) }
 {
     let (role, next) = role_at(s, at, after)?;
     let (dimensions, from) = count_at(s, next, Question::Array, 1, 3)?;

@@ -1,4 +1,4 @@
-use mathlib.Core.Path.{ap, ◌∙◌}
+use mathlib.Core.Path.{ap, refl, ◌∙◌}
 use native.Mathlib.Omega.{arith}
 use native.Mathlib.Numerals.{add-one}
 use Rattle.reader.specs.Answers.{read_says}
@@ -16,4 +16,4 @@ pub loop-k-preserved : goal.loop-k-preserved
 loop-k-preserved c = row_more _ _ _ _ _ _ _ c.operator_byte_at.ensures c.in_ok-x.was (omega arith) (λ l. rw add-one) ∙ c.loop-k.invariant
 
 pub returns : goal.returns
-returns c = row_none _ _ _ _ _ (omega arith) ∙ c.loop-k.invariant
+returns c = row_none _ _ _ _ _ (omega arith) refl ∙ c.loop-k.invariant

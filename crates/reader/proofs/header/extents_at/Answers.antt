@@ -1,0 +1,33 @@
+use mathlib.Core.Path.{ap, ◌∙◌}
+use Prim.Native.Nat.{◌+◌}
+use native.Mathlib.Omega.{arith}
+use native.Mathlib.Numerals.{add-one}
+use native.Mathlib.Nat.{mul_assoc, mul-one, one-mul}
+use Rattle.reader.specs.Answers.{read_says}
+use Rattle.reader.proofs.Steps.{handed}
+use Rattle.reader.proofs.Heads.{padded_sets, row_start, row_none, row-stop, row_more, size_more, size_below}
+use Rattle.reader.proofs.header.extents_at.Goals as goal
+
+pub loop-k-init : goal.loop-k-init
+loop-k-init c = record {
+  says = row_start _ _ _ _ _ _ _ (omega arith) λ l e. rw (padded_sets 3 0 l (omega arith), one-mul);
+  most = omega arith;
+}
+
+pub returns-in_err-x-clause-says : goal.returns-in_err-x-clause-says
+returns-in_err-x-clause-says c = ap read_says (handed c.from_residual.ensures) ∙ row-stop _ _ _ _ _ (omega arith) c.extent_at.ensures.says c.in_err-x.was ∙ c.loop-k.invariant.says
+
+pub overflow_mul-size : goal.overflow_mul-size
+overflow_mul-size c = omega (arith, size_below (c.loop-k.k + 1) _ (omega arith) (size_more _ _ c.from-size.result c.loop-k.invariant.most (omega (arith, c.in_ok-x.ensures.most))))
+
+pub loop-k-preserved : goal.loop-k-preserved
+loop-k-preserved c = record {
+  says = row_more _ _ _ _ _ _ _ c.extent_at.ensures.says c.in_ok-x.was (omega arith) (λ l. rw (add-one, c.from-size.ensures, mul_assoc)) ∙ c.loop-k.invariant.says;
+  most = size_more _ _ _ c.loop-k.invariant.most (omega (arith, c.in_ok-x.ensures.most));
+}
+
+pub returns : goal.returns
+returns c = record {
+  says = row_none _ _ _ _ _ (omega arith) (rw mul-one) ∙ c.loop-k.invariant.says;
+  most = size_below _ _ (omega arith) c.loop-k.invariant.most;
+}
