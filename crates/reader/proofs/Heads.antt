@@ -5,12 +5,19 @@ use mathlib.Core.List.{List, [], ◌∷◌}
 use native.Mathlib.Omega.{arith}
 use native.Mathlib.Nat.{zero-add, mul-le-mul, pow-le-pow_right}
 use native.Mathlib.Numerals.{unary_clauses}
+use mathlib.Core.Bool.{Bool, true, false}
+use lib.Dec.{leb}
 use lib.ListN.{length, replicate, length-replicate}
 use Rattle.std.specs.Prelude.{Result, Ok, Err}
 use Rattle.std.proofs.lemmas.List.{drop-replicate}
 use Rattle.std.proofs.lemmas.List.Edits.{sets, sets-eq}
 use Rattle.model.specs.declared.question.Refusal.{Refusal}
-use Rattle.reader.specs.Field.{Outcome, got, no, Reader, times}
+use Rattle.model.specs.Test.{within}
+use Rattle.model.specs.Tables.{Array, cells}
+use Rattle.reader.specs.Field.{Outcome, got, no, Reader, and_then, ask, byte, times}
+use Rattle.reader.specs.Grammar.{extent, array}
+use Rattle.reader.specs.Parts.{checked, role_test, extents_in, array_in}
+use Rattle.reader.specs.declared.header.Extents.{Extents}
 use Rattle.reader.specs.Answers.{through, read_says, refusal_says}
 use Rattle.reader.specs.Entries.{padded}
 use Rattle.reader.proofs.Forward.{Held, held_then}
@@ -65,3 +72,30 @@ size_more k size x h w = simp unary_clauses (mul-le-mul h w)
 
 pub size_below : (k size : ℕ) → k ≤ 3 → size ≤ 1024 ^ k → size ≤ 1073741824
 size_below k size h w = omega (arith, pow-le-pow_right {n = 1024} (omega arith) h)
+
+-- a byte with a question of its own, and what follows it
+checked_then : {B : Type 0} (n : ℕ) (test : ℕ → Bool) (s : List ℕ) (at : ℕ) (f : ℕ → ℕ → Outcome B) →
+    and_then (byte s at) (λ x y. and_then (ask n at (test x) s y) (λ _ z. f x z)) ≡ and_then (checked n test s at) f
+unfolding checked
+checked_then n test s at f = go (byte s at)
+  where
+    tested : (t : Bool) (x y : ℕ) → and_then (ask n at t s y) (λ _ z. f x z) ≡ and_then (and_then (ask n at t s y) (λ _ z. got x z)) f
+    tested true x y = refl
+    tested false x y = refl
+
+    go : (m : Outcome ℕ) → and_then m (λ x y. and_then (ask n at (test x) s y) (λ _ z. f x z)) ≡ and_then (and_then m (λ x y. and_then (ask n at (test x) s y) (λ _ z. got x z))) f
+    go (got x y) = tested (test x) x y
+    go (no k p) = refl
+
+-- an array by its checked parts
+pub array_parts : (after : Bool) (before : ℕ) (s : List ℕ) (at : ℕ) → array after before s at
+    ≡ and_then (checked 7 (role_test after) s at) (λ role q.
+    and_then (checked 7 (within 1 3) s q) (λ d y.
+    and_then (times [] ◌∷◌ extent d s y) (λ l z.
+    and_then (ask 8 at (leb (before + cells l) 2048) s z) (λ _ w. got (record { role = role; extents = l }) w))))
+unfolding array
+array_parts after before s at = simp checked_then
+
+pub array_is : (role d next : ℕ) (e : Extents) (l : List ℕ) → extents_in l ≡ e → length l ≡ d →
+    got (record { role = role; dimensions = d; extents = e.extents; size = e.size }) next ≡ got (array_in (record { role = role; extents = l })) next
+array_is role d next e l h w = rw (← h, ← w)
