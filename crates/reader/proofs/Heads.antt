@@ -6,7 +6,7 @@ use native.Mathlib.Omega.{arith}
 use native.Mathlib.Nat.{zero-add, mul-le-mul, pow-le-pow_right}
 use native.Mathlib.Numerals.{unary_clauses}
 use mathlib.Core.Bool.{Bool, true, false}
-use lib.Dec.{leb}
+use lib.Dec.{leb, eqb}
 use lib.ListN.{length, replicate, length-replicate}
 use Rattle.std.specs.Prelude.{Result, Ok, Err}
 use Rattle.std.proofs.lemmas.List.{drop-replicate}
@@ -15,13 +15,15 @@ use Rattle.model.specs.declared.question.Refusal.{Refusal}
 use Rattle.model.specs.Test.{within}
 use Rattle.model.specs.Tables.{Array, cells}
 use Rattle.reader.specs.Field.{Outcome, got, no, Reader, and_then, ask, byte, times}
-use Rattle.reader.specs.Grammar.{extent, array}
-use Rattle.reader.specs.Parts.{checked, role_test, extents_in, array_in}
+use Rattle.reader.specs.Grammar.{extent, array, arrays}
+use Rattle.reader.specs.Parts.{checked, role_test, extents_in, array_in, with_array, stored}
+use Rattle.reader.specs.declared.header.Array.{Array as Filled}
+use Rattle.reader.specs.declared.tables.Tables.{Tables as Packed}
 use Rattle.reader.specs.declared.header.Extents.{Extents}
 use Rattle.reader.specs.Answers.{through, read_says, refusal_says}
 use Rattle.reader.specs.Entries.{padded}
 use Rattle.reader.proofs.Forward.{Held, held_then}
-use Rattle.reader.proofs.Steps.{read-got, read_no, remade}
+use Rattle.reader.proofs.Steps.{read-got, read_no, made_no, remade}
 
 any : {A : Type 0} (m : Outcome A) → Held (λ _ _. Unit {0}) m
 any (got a next) = tt
@@ -99,3 +101,23 @@ array_parts after before s at = simp checked_then
 pub array_is : (role d next : ℕ) (e : Extents) (l : List ℕ) → extents_in l ≡ e → length l ≡ d →
     got (record { role = role; dimensions = d; extents = e.extents; size = e.size }) next ≡ got (array_in (record { role = role; extents = l })) next
 array_is role d next e l h w = rw (← h, ← w)
+
+-- arrays in a row, and what a loop makes of those that are left
+module _ (s : List ℕ) where
+  pub arrays_none : (f : List Array → Packed) (n : ℕ) (after : Bool) (before at : ℕ) → n ≡ 0 → got (f []) at ≡ through f (arrays n after before s at)
+  unfolding arrays through
+  arrays_none f zero after before at h = refl
+  arrays_none f (suc n) after before at h = absurd (omega arith)
+
+  pub arrays-stop : (f : List Array → Packed) (n : ℕ) (after : Bool) (before at : ℕ) {r : Result (Filled × ℕ) Refusal} {e : Refusal} →
+      read_says r ≡ through array_in (array after before s at) → r ≡ Err e → 0 < n → refusal_says e ≡ through f (arrays n after before s at)
+  unfolding arrays through
+  arrays-stop f zero after before at e w h = absurd (omega arith)
+  arrays-stop f (suc n) after before at e w h = rw (made_no array_in _ e w)
+
+  pub arrays_more : (n m : ℕ) (after : Bool) (before at : ℕ) (t u : Packed) (k b : ℕ) (a : Array) {x : Filled} {next : ℕ} →
+      array after before s at ≡ got a next → array_in a ≡ x → n ≡ suc m → u ≡ with_array t k x b → b ≡ before + x.size →
+      through (stored u (k + 1) b) (arrays m (eqb x.role 3) b s next) ≡ through (stored t k before) (arrays n after before s at)
+  unfolding arrays
+  arrays_more zero m after before at t u k b a e q h v w = absurd (omega arith)
+  arrays_more (suc n) m after before at t u k b a e q h v w = let z : n ≡ m = omega arith in rw (v, w, ← q, e, z) (remade _ _ _ _ λ l. refl)

@@ -7,9 +7,8 @@ use lib.ListN.{length, get_or, set, replicate, length-append, length-map}
 use lib.Seq.{get_or_at}
 use Rattle.model.specs.Tables.{Array, cells}
 use Rattle.reader.specs.Entries.{padded, cut, array_of, arrays_of, unpacked, threes, bases, packed}
-use Rattle.reader.specs.Parts.{Small, sizes, with_array}
+use Rattle.reader.specs.Parts.{Small, sizes, with_array, array_in, stored}
 use Rattle.reader.specs.declared.tables.Tables.{Tables as Packed}
-use Rattle.reader.specs.declared.header.Array.{Array as Filled}
 use Rattle.reader.proofs.Lists.{length-padded, padded-set}
 
 map_append : {A B : Type 0} (f : A → B) (xs ys : List A) → map f (xs ++ ys) ≡ map f xs ++ map f ys
@@ -28,7 +27,7 @@ length-threes (x ∷ xs) h =
     length-append (padded 3 0 x.extents) (threes xs)
     ∙ let a : length (padded 3 0 x.extents) ≡ 3 = length-padded 3 0 x.extents h.0 in let b = length-threes xs h.1 in omega (arith, a, b)
 
-pub length-bases : (b : ℕ) (xs : List Array) → length (bases b xs) ≡ length xs + 1
+length-bases : (b : ℕ) (xs : List Array) → length (bases b xs) ≡ length xs + 1
 unfolding bases
 length-bases b [] = refl
 length-bases b (x ∷ xs) = let e = length-bases (b + cells x.extents) xs in omega (arith, e)
@@ -40,12 +39,12 @@ bases_snoc b (y ∷ xs) x =
     let e : b + (cells y.extents + sizes xs) + cells x.extents ≡ b + cells y.extents + sizes xs + cells x.extents = omega arith in
     rw e (ap (λ (l : List ℕ). b ∷ l) (bases_snoc (b + cells y.extents) xs x))
 
-pub sizes_snoc : (xs : List Array) (x : Array) → sizes xs + cells x.extents ≡ sizes (xs ++ (x ∷ []))
+sizes_snoc : (xs : List Array) (x : Array) → sizes xs + cells x.extents ≡ sizes (xs ++ (x ∷ []))
 unfolding sizes
 sizes_snoc [] x = omega arith
 sizes_snoc (y ∷ xs) x = let e = sizes_snoc xs x in omega (arith, e)
 
-pub small_snoc : (xs : List Array) (x : Array) → Small xs → length x.extents ≤ 3 → Small (xs ++ (x ∷ []))
+small_snoc : (xs : List Array) (x : Array) → Small xs → length x.extents ≤ 3 → Small (xs ++ (x ∷ []))
 unfolding Small
 small_snoc [] x h w = (w, tt)
 small_snoc (y ∷ xs) x h w = (h.0, small_snoc xs x h.1 w)
@@ -65,29 +64,37 @@ three-sets l k a b c e h =
     ∙ padded-set 48 0 ((l ++ (a ∷ [])) ++ (b ∷ [])) (3 * k + 2) c (simp length-append (omega arith)) (omega arith)
     ∙ ap (padded 48 0) (append_assoc (l ++ (a ∷ [])) (b ∷ []) (c ∷ []) ∙ append_assoc l (a ∷ []) (b ∷ c ∷ []))
 
-snoc_set : (f : Array → ℕ) (xs : List Array) (x : Array) (k v : ℕ) → length xs ≡ k → k < 16 → v ≡ f x →
-    set (padded 16 0 (map f xs)) k v ≡ padded 16 0 (map f (xs ++ (x ∷ [])))
-snoc_set f xs x k v e h w =
-    ap (λ (u : ℕ). set (padded 16 0 (map f xs)) k u) w ∙ padded-set 16 0 (map f xs) k (f x) (length-map xs f ∙ e) h ∙ ap (padded 16 0) (sym (map_append f xs (x ∷ [])))
+snoc_set : (f : Array → ℕ) (xs : List Array) (x : Array) (k : ℕ) → length xs ≡ k → k < 16 → set (padded 16 0 (map f xs)) k (f x) ≡ padded 16 0 (map f (xs ++ (x ∷ [])))
+snoc_set f xs x k e h = padded-set 16 0 (map f xs) k (f x) (length-map xs f ∙ e) h ∙ ap (padded 16 0) (sym (map_append f xs (x ∷ [])))
 
 -- one array more
-pub packed_more : (ops : List ℕ) (xs : List Array) (x : Array) (k : ℕ) (r : Filled) (total : ℕ) → length xs ≡ k → k < 16 → Small xs → length x.extents ≤ 3 →
-    r.role ≡ x.role → r.dimensions ≡ length x.extents → r.extents ≡ padded 3 0 x.extents → total ≡ sizes xs + cells x.extents →
-    with_array (packed (record { operators = ops; arrays = xs })) k r total ≡ packed (record { operators = ops; arrays = xs ++ (x ∷ []) })
+packed_more : (ops : List ℕ) (xs : List Array) (x : Array) (k total : ℕ) → length xs ≡ k → k < 16 → Small xs → length x.extents ≤ 3 → total ≡ sizes xs + cells x.extents →
+    with_array (packed (record { operators = ops; arrays = xs })) k (array_in x) total ≡ packed (record { operators = ops; arrays = xs ++ (x ∷ []) })
 unfolding with_array packed threes
-packed_more ops xs x k r total e h s w a b c d =
+packed_more ops xs x k total e h s w d =
     let p1 : k + 1 ≡ length (xs ++ (x ∷ [])) = simp length-append (omega arith) in
-    let p2 = snoc_set (λ x. x.role) xs x k r.role e h a in
-    let p3 = snoc_set (λ x. length x.extents) xs x k r.dimensions e h b in
-    let p4 : set (set (set (padded 48 0 (threes xs)) (3 * k) (get_or r.extents 0 0)) (3 * k + 1) (get_or r.extents 1 0)) (3 * k + 2) (get_or r.extents 2 0) ≡ padded 48 0 (threes (xs ++ (x ∷ []))) =
+    let p2 = snoc_set (λ x. x.role) xs x k e h in
+    let p3 = snoc_set (λ x. length x.extents) xs x k e h in
+    let l = padded 3 0 x.extents in
+    let p4 : set (set (set (padded 48 0 (threes xs)) (3 * k) (get_or l 0 0)) (3 * k + 1) (get_or l 1 0)) (3 * k + 2) (get_or l 2 0) ≡ padded 48 0 (threes (xs ++ (x ∷ []))) =
     three-sets (threes xs) k _ _ _ (length-threes xs s ∙ ap (λ (n : ℕ). 3 * n) e) h
-    ∙ ap (λ (l : List ℕ). padded 48 0 (threes xs ++ l)) (sym (three r.extents (ap length c ∙ length-padded 3 0 x.extents w)) ∙ c ∙ sym (append-nil (padded 3 0 x.extents)))
+    ∙ ap (λ (m : List ℕ). padded 48 0 (threes xs ++ m)) (sym (three l (length-padded 3 0 x.extents w)) ∙ sym (append-nil l))
     ∙ ap (padded 48 0) (sym (threes_append xs (x ∷ []))) in
     let p5 : set (padded 17 0 (bases 0 xs)) (k + 1) total ≡ padded 17 0 (bases 0 (xs ++ (x ∷ []))) =
     (let z : total ≡ 0 + sizes xs + cells x.extents = omega arith in
     ap (λ (v : ℕ). set (padded 17 0 (bases 0 xs)) (k + 1) v) z
     ∙ padded-set 17 0 (bases 0 xs) (k + 1) (0 + sizes xs + cells x.extents) (length-bases 0 xs ∙ ap (λ (n : ℕ). n + 1) e) (omega arith) ∙ ap (padded 17 0) (bases_snoc 0 xs x)) in
     rw (p2, p3, p4, p5, p1)
+
+-- all of them
+pub stored_is : (ops : List ℕ) (xs ys : List Array) (k before : ℕ) → length xs ≡ k → k + length ys ≤ 16 → Small xs → Small ys → before ≡ sizes xs →
+    stored (packed (record { operators = ops; arrays = xs })) k before ys ≡ packed (record { operators = ops; arrays = xs ++ ys })
+unfolding stored Small
+stored_is ops xs [] k before e h s w b = rw append-nil
+stored_is ops xs (y ∷ ys) k before e h s w b =
+    rw (packed_more ops xs y k (before + cells y.extents) e (omega arith) s w.0 (omega arith))
+    (stored_is ops (xs ++ (y ∷ [])) ys (k + 1) (before + cells y.extents) (simp length-append (omega arith)) (omega arith) (small_snoc xs y s w.0) w.1 (omega (arith, sizes_snoc xs y))
+    ∙ ap (λ (l : List Array). packed (record { operators = ops; arrays = l })) (append_assoc xs (y ∷ []) ys))
 
 -- a part of a list, read back
 pub cut_mid : (n from : ℕ) (p l q : List ℕ) → length l ≡ n → length p ≡ from → cut n from (p ++ (l ++ q)) ≡ l

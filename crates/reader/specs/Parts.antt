@@ -62,3 +62,8 @@ with_array t k x total =
       extents = set (set (set t.extents (3 * k) (get_or x.extents 0 0)) (3 * k + 1) (get_or x.extents 1 0)) (3 * k + 2) (get_or x.extents 2 0);
       bases = set t.bases (k + 1) total;
     }
+
+-- more arrays, from number k on, with `before` cells before them
+abbrev pub stored : Packed → ℕ → ℕ → List Array → Packed
+stored t k before [] = t
+stored t k before (x ∷ xs) = stored (with_array t k (array_in x) (before + cells x.extents)) (k + 1) (before + cells x.extents) xs

@@ -7,7 +7,7 @@ ghost use Rattle.reader.specs.Field.{times};
 ghost use Rattle.reader.specs.Grammar.{head, operator_of, extent, array as array_reader, arrays as arrays_reader};
 ghost use Rattle.reader.specs.Answers.{through, read_says};
 ghost use Rattle.reader.specs.Entries.{padded, packed, unpacked, tables_step};
-ghost use Rattle.reader.specs.Parts.{checked, role_test, array_table, tables_with, extents_in, array_in, with_array};
+ghost use Rattle.reader.specs.Parts.{checked, role_test, array_table, tables_with, extents_in, array_in, with_array, stored};
 
 use crate::cursor::field_at;
 use crate::fields::{Read, Width};
@@ -174,7 +174,7 @@ fn with_array(tables: Tables, k: usize, x: Array, total: usize) -> Tables
 // n arrays, put into tables that hold none.
 fn arrays_at(s: &[u8], at: usize, n: usize, empty: Tables) -> Read<Tables>
     requires { n ≤ 16 }
-    ensures { (ops : List ℕ) → empty ≡ packed (record { operators = ops; arrays = [] }) → read_says result ≡ through (λ xs. packed (record { operators = ops; arrays = xs })) (arrays_reader n false 0 s.now at) }
+    ensures { read_says result ≡ through (stored empty 0 0) (arrays_reader n false 0 s.now at) }
 {
     let mut tables = empty;
     let mut after = false;
