@@ -6,28 +6,35 @@ use native.Mathlib.Omega.{arith}
 use native.Mathlib.Nat.{zero-add, mul-le-mul, pow-le-pow_right}
 use native.Mathlib.Numerals.{unary_clauses}
 use mathlib.Core.Bool.{Bool, true, false}
+use borrow.Author.Tests.{le-leb, leb-true}
+use Rattle.std.proofs.lemmas.Bool.{and_parts}
 use lib.Dec.{leb, eqb}
 use lib.ListN.{length, replicate, length-replicate}
-use Rattle.std.specs.Prelude.{Result, Ok, Err}
+use Rattle.std.specs.Prelude.{Result, Ok, Err, if◌then◌else◌}
 use Rattle.std.proofs.lemmas.List.{drop-replicate}
 use Rattle.std.proofs.lemmas.List.Edits.{sets, sets-eq}
 use Rattle.model.specs.declared.question.Refusal.{Refusal}
 use Rattle.model.specs.Test.{within}
-use Rattle.model.specs.Tables.{Array, cells}
+use Rattle.model.specs.Tables.{Array, Tables, cells, local}
 use Rattle.reader.specs.Field.{Outcome, got, no, Reader, and_then, ask, byte, times}
-use Rattle.reader.specs.Grammar.{extent, array, arrays}
-use Rattle.reader.specs.Parts.{checked, role_test, extents_in, array_in, with_array, stored}
+use Rattle.reader.specs.Grammar.{head, operator_of, operators, extent, array, arrays, tables}
+use Rattle.reader.proofs.Stores.{stored_is, unpacked-packed}
+use Rattle.reader.specs.Parts.{checked, role_test, extents_in, array_in, array_table, with_array, stored, sizes, Small}
 use Rattle.reader.specs.declared.header.Array.{Array as Filled}
 use Rattle.reader.specs.declared.tables.Tables.{Tables as Packed}
 use Rattle.reader.specs.declared.header.Extents.{Extents}
 use Rattle.reader.specs.Answers.{through, read_says, refusal_says}
-use Rattle.reader.specs.Entries.{padded}
-use Rattle.reader.proofs.Forward.{Held, held_then}
+use Rattle.reader.specs.Entries.{padded, packed, unpacked, tables_step}
+use Rattle.reader.proofs.Forward.{Held, held_then, held-ask}
 use Rattle.reader.proofs.Steps.{read-got, read_no, made_no, remade}
 
 any : {A : Type 0} (m : Outcome A) → Held (λ _ _. Unit {0}) m
 any (got a next) = tt
 any (no k p) = tt
+
+held_weak : {A : Type 0} (P Q : A → ℕ → Type 0) (m : Outcome A) → Held P m → ((a : A) (next : ℕ) → P a next → Q a next) → Held Q m
+held_weak P Q (got a next) h f = f a next h
+held_weak P Q (no k p) h f = tt
 
 -- what is made of a value, where something is known of it
 through_held : {A B : Type 0} (P : A → ℕ → Type 0) (f g : A → B) (m : Outcome A) → Held P m → ((a : A) (next : ℕ) → P a next → f a ≡ g a) → through f m ≡ through g m
@@ -75,19 +82,10 @@ size_more k size x h w = simp unary_clauses (mul-le-mul h w)
 pub size_below : (k size : ℕ) → k ≤ 3 → size ≤ 1024 ^ k → size ≤ 1073741824
 size_below k size h w = omega (arith, pow-le-pow_right {n = 1024} (omega arith) h)
 
--- a byte with a question of its own, and what follows it
-checked_then : {B : Type 0} (n : ℕ) (test : ℕ → Bool) (s : List ℕ) (at : ℕ) (f : ℕ → ℕ → Outcome B) →
-    and_then (byte s at) (λ x y. and_then (ask n at (test x) s y) (λ _ z. f x z)) ≡ and_then (checked n test s at) f
-unfolding checked
-checked_then n test s at f = go (byte s at)
-  where
-    tested : (t : Bool) (x y : ℕ) → and_then (ask n at t s y) (λ _ z. f x z) ≡ and_then (and_then (ask n at t s y) (λ _ z. got x z)) f
-    tested true x y = refl
-    tested false x y = refl
-
-    go : (m : Outcome ℕ) → and_then m (λ x y. and_then (ask n at (test x) s y) (λ _ z. f x z)) ≡ and_then (and_then m (λ x y. and_then (ask n at (test x) s y) (λ _ z. got x z))) f
-    go (got x y) = tested (test x) x y
-    go (no k p) = refl
+-- parts of parts in a row
+then_then : {A B C : Type 0} (m : Outcome A) (f : A → ℕ → Outcome B) (g : B → ℕ → Outcome C) → and_then (and_then m f) g ≡ and_then m (λ a n. and_then (f a n) g)
+then_then (got a n) f g = refl
+then_then (no k p) f g = refl
 
 -- an array by its checked parts
 pub array_parts : (after : Bool) (before : ℕ) (s : List ℕ) (at : ℕ) → array after before s at
@@ -95,8 +93,8 @@ pub array_parts : (after : Bool) (before : ℕ) (s : List ℕ) (at : ℕ) → ar
     and_then (checked 7 (within 1 3) s q) (λ d y.
     and_then (times [] ◌∷◌ extent d s y) (λ l z.
     and_then (ask 8 at (leb (before + cells l) 2048) s z) (λ _ w. got (record { role = role; extents = l }) w))))
-unfolding array
-array_parts after before s at = simp checked_then
+unfolding array checked
+array_parts after before s at = simp then_then
 
 pub array_is : (role d next : ℕ) (e : Extents) (l : List ℕ) → extents_in l ≡ e → length l ≡ d →
     got (record { role = role; dimensions = d; extents = e.extents; size = e.size }) next ≡ got (array_in (record { role = role; extents = l })) next
@@ -121,3 +119,83 @@ module _ (s : List ℕ) where
   unfolding arrays
   arrays_more zero m after before at t u k b a e q h v w = absurd (omega arith)
   arrays_more (suc n) m after before at t u k b a e q h v w = let z : n ≡ m = omega arith in rw (v, w, ← q, e, z) (remade _ _ _ _ λ l. refl)
+
+pub array_table_parts : (s : List ℕ) (at : ℕ) → array_table s at ≡ and_then (checked 7 (within 1 16) s at) (λ n y. arrays n false 0 s y)
+unfolding array_table checked
+array_table_parts s at = simp then_then
+
+zero_leb : (n : ℕ) → leb 0 n ≡ true
+zero_leb n = le-leb 0 n (omega arith)
+
+pub tables_parts : (s : List ℕ) (at : ℕ) → tables s at
+    ≡ and_then (head s at) (λ version x.
+    and_then (checked 6 (within 0 16) s x) (λ n y.
+    and_then (times [] ◌∷◌ (operator_of version) n s y) (λ ops z.
+    and_then (array_table s z) (λ xs w. got (record { operators = ops; arrays = xs }) w))))
+unfolding tables operators array_table checked
+tables_parts s at = simp (then_then, zero_leb)
+
+pub tables_are : (s : List ℕ) (at : ℕ) {version x n y z : ℕ} {ops : List ℕ} → head s at ≡ got version x → checked 6 (within 0 16) s x ≡ got n y →
+    times [] ◌∷◌ (operator_of version) n s y ≡ got ops z → through (λ xs. packed (record { operators = ops; arrays = xs })) (array_table s z) ≡ through packed (tables s at)
+tables_are s at e f g = rw (tables_parts, e, f, g) (remade _ _ _ _ λ xs. refl)
+
+-- what the tables hold
+array-held : (after : Bool) (before : ℕ) (s : List ℕ) (at : ℕ) → Held (λ x _. length x.extents ≤ 3) (array after before s at)
+unfolding array
+array-held after before s at =
+    held_then (λ _ _. Unit {0}) (λ x _. length x.extents ≤ 3) (byte s at) _ (any (byte s at)) λ role x _.
+    held-ask (λ x _. length x.extents ≤ 3) 7 at (role_test after role) s x _ λ _.
+    held_then (λ _ _. Unit {0}) (λ x _. length x.extents ≤ 3) (byte s x) _ (any (byte s x)) λ d y _.
+    held-ask (λ x _. length x.extents ≤ 3) 7 x (within 1 3 d) s y _ λ e.
+    held_then (λ l _. length l ≡ d) (λ x _. length x.extents ≤ 3) (times [] ◌∷◌ extent d s y) _ (row-held extent s d y) λ l z w.
+    held-ask (λ x _. length x.extents ≤ 3) 8 at (leb (before + cells l) 2048) s z _ λ _.
+    omega (arith, w, leb-true d 3 (and_parts (leb 1 d) (leb d 3) e).1)
+
+arrays-held : (s : List ℕ) (n : ℕ) (after : Bool) (before at : ℕ) → Held (λ xs _. (length xs ≡ n) × Small xs) (arrays n after before s at)
+unfolding arrays Small
+arrays-held s zero after before at = (refl, tt)
+arrays-held s (suc n) after before at =
+    held_then (λ x _. length x.extents ≤ 3) (λ xs _. (length xs ≡ suc n) × Small xs) (array after before s at) _ (array-held after before s at) λ x p h.
+    held_then (λ xs _. (length xs ≡ n) × Small xs) (λ xs _. (length xs ≡ suc n) × Small xs) (arrays n (local x) (before + cells x.extents) s p) _ (arrays-held s n (local x) (before + cells x.extents) p) λ xs q w.
+    (omega (arith, w.0), (h, w.1))
+
+pub arrays_start : (s : List ℕ) (n at : ℕ) (ops : List ℕ) (empty : Packed) → n ≤ 16 → empty ≡ packed (record { operators = ops; arrays = [] }) →
+    through (stored empty 0 0) (arrays n false 0 s at) ≡ through (λ xs. packed (record { operators = ops; arrays = xs })) (arrays n false 0 s at)
+unfolding Small sizes
+arrays_start s n at ops empty h e = rw e (through_held _ _ _ _ (arrays-held s n false 0 at) λ xs next w. stored_is ops [] xs 0 0 refl (omega (arith, w.0)) tt w.1 refl)
+
+operators-held : (version : ℕ) (s : List ℕ) (at : ℕ) → Held (λ l _. length l ≤ 16) (operators version s at)
+unfolding operators
+operators-held version s at =
+    held_then (λ _ _. Unit {0}) (λ l _. length l ≤ 16) (byte s at) _ (any (byte s at)) λ n x _.
+    held-ask (λ l _. length l ≤ 16) 6 at (leb n 16) s x _ λ e. held_weak _ (λ l _. length l ≤ 16) _ (row-held (operator_of version) s n x) λ l y w. omega (arith, w, leb-true n 16 e)
+
+abbrev Fitting : Tables → ℕ → Type 0
+Fitting t next = (length t.operators ≤ 16) × (length t.arrays ≤ 16) × Small t.arrays
+
+tables-held : (s : List ℕ) (at : ℕ) → Held Fitting (tables s at)
+unfolding tables
+tables-held s at =
+    held_then (λ _ _. Unit {0}) Fitting (head s at) _ (any (head s at)) λ version x _.
+    held_then (λ l _. length l ≤ 16) Fitting (operators version s x) _ (operators-held version s x) λ ops y h.
+    held_then (λ _ _. Unit {0}) Fitting (byte s y) _ (any (byte s y)) λ n z _.
+    held-ask Fitting 7 y (within 1 16 n) s z _ λ e.
+    held_then (λ xs _. (length xs ≡ n) × Small xs) Fitting (arrays n false 0 s z) _ (arrays-held s n false 0 z) λ xs w k.
+    (h, omega (arith, k.0, leb-true n 16 (and_parts (leb 1 n) (leb n 16) e).1), k.1)
+
+step-held : (s : List ℕ) → Held Fitting (tables_step s)
+unfolding tables_step
+step-held s = go (leb (length s) 16384)
+  where
+    go : (t : Bool) → Held Fitting (if t then tables s 0 else no 2 0)
+    go true = tables-held s 0
+    go false = tt
+
+-- tables that were packed are read back
+pub tables_back : (s : List ℕ) → through unpacked (through packed (tables_step s)) ≡ tables_step s
+unfolding through
+tables_back s = go (tables_step s) (step-held s)
+  where
+    go : (m : Outcome Tables) → Held Fitting m → through unpacked (through packed m) ≡ m
+    go (got t next) h = rw (unpacked-packed t.operators t.arrays h.0 h.1 h.2)
+    go (no k p) h = refl

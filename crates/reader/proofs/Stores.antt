@@ -89,7 +89,7 @@ packed_more ops xs x k total e h s w d =
 -- all of them
 pub stored_is : (ops : List ℕ) (xs ys : List Array) (k before : ℕ) → length xs ≡ k → k + length ys ≤ 16 → Small xs → Small ys → before ≡ sizes xs →
     stored (packed (record { operators = ops; arrays = xs })) k before ys ≡ packed (record { operators = ops; arrays = xs ++ ys })
-unfolding stored Small
+unfolding Small
 stored_is ops xs [] k before e h s w b = rw append-nil
 stored_is ops xs (y ∷ ys) k before e h s w b =
     rw (packed_more ops xs y k (before + cells y.extents) e (omega arith) s w.0 (omega arith))

@@ -29,10 +29,6 @@ array_table = do
   _ ← ask 7 p (within 1 16 n)
   arrays n false 0
 
--- with the operators read before
-unfoldable pub tables_with : List ℕ → Outcome (List Array) → Outcome Tables
-tables_with ops m = and_then m (λ xs next. got (record { operators = ops; arrays = xs }) next)
-
 -- extents as the code holds them, and an array
 abbrev pub extents_in : List ℕ → Extents
 extents_in l = record { extents = padded 3 0 l; size = cells l }

@@ -4,10 +4,10 @@ ghost use Rattle.model.specs.Questions.{number_of};
 ghost use Rattle.model.specs.Test.{within};
 ghost use Rattle.model.specs.Tables.{operator_in};
 ghost use Rattle.reader.specs.Field.{times};
-ghost use Rattle.reader.specs.Grammar.{head, operator_of, extent, array as array_reader, arrays as arrays_reader};
+ghost use Rattle.reader.specs.Grammar.{head, operator_of, extent, array as array_reader, arrays as arrays_reader, tables};
 ghost use Rattle.reader.specs.Answers.{through, read_says};
 ghost use Rattle.reader.specs.Entries.{padded, packed, unpacked, tables_step};
-ghost use Rattle.reader.specs.Parts.{checked, role_test, array_table, tables_with, extents_in, array_in, with_array, stored};
+ghost use Rattle.reader.specs.Parts.{checked, role_test, array_table, extents_in, array_in, with_array, stored};
 
 use crate::cursor::field_at;
 use crate::fields::{Read, Width};
@@ -192,7 +192,7 @@ fn arrays_at(s: &[u8], at: usize, n: usize, empty: Tables) -> Read<Tables>
 
 // The array table, behind an operator table that was read.
 fn arrays_of(s: &[u8], at: usize, operators: usize, bytes: [u8; 16]) -> Read<Tables>
-    ensures { (ops : List ℕ) → length ops ≡ operators → length ops ≤ 16 → bytes ≡ padded 16 0 ops → read_says result ≡ through packed (tables_with ops (array_table s.now at)) }
+    ensures { (ops : List ℕ) → length ops ≡ operators → bytes ≡ padded 16 0 ops → read_says result ≡ through (λ xs. packed (record { operators = ops; arrays = xs })) (array_table s.now at) }
 {
     let (n, next) = count_at(s, at, Question::Array, 1, 16)?;
     let empty = Tables {
@@ -207,6 +207,16 @@ fn arrays_of(s: &[u8], at: usize, operators: usize, bytes: [u8; 16]) -> Read<Tab
     arrays_at(s, next, n, empty)
 }
 
+// The operator table and the array table of a file, whatever its length.
+fn tables_at(s: &[u8], at: usize) -> Read<Tables>
+    ensures { read_says result ≡ through packed (tables s.now at) }
+{
+    let (version, count) = head_at(s, at)?;
+    let (n, first) = count_at(s, count, Question::Operator, 0, 16)?;
+    let (bytes, end) = operators_at(s, first, version, n)?;
+    arrays_of(s, end, n, bytes)
+}
+
 // The tables of a program, and the place of its first item. 2 is asked first.
 pub fn tables_of(program: &[u8]) -> Read<Tables>
     ensures says { through unpacked (read_says result) ≡ tables_step program.now }
@@ -215,8 +225,5 @@ pub fn tables_of(program: &[u8]) -> Read<Tables>
     if MOST_BYTES < program.len() {
         return Err(Question::Length.at(0));
     }
-    let (version, at) = head_at(program, 0)?;
-    let (n, next) = count_at(program, at, Question::Operator, 0, 16)?;
-    let (bytes, end) = operators_at(program, next, version, n)?;
-    arrays_of(program, end, n, bytes)
+    tables_at(program, 0)
 }
