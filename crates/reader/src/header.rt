@@ -127,7 +127,7 @@ fn extents_at(s: &[u8], at: usize, n: usize) -> Read<Extents>
 #[derive(Clone, Copy, Debug, PartialEq, Eq)]
 struct Array {
     role: u8,
-    dimensions: usize,
+    dimensions: u8,
     extents: [u16; 3],
     size: usize,
 }
@@ -136,7 +136,7 @@ struct Array {
 fn array_at(s: &[u8], at: usize, after: bool, before: usize) -> Read<Array>
     requires { before ≤ 2048 }
     ensures says { read_says result ≡ through array_in (array_reader after before s.now at) }
-    ensures most { IfOk result (λ r. (r.0.dimensions ≤ 3) × (before + r.0.size ≤ 2048)) }
+    ensures most { IfOk result (λ r. before + r.0.size ≤ 2048) }
 {
     let (role, next) = role_at(s, at, after)?;
     let (dimensions, from) = count_at(s, next, Question::Array, 1, 3)?;
@@ -146,7 +146,7 @@ fn array_at(s: &[u8], at: usize, after: bool, before: usize) -> Read<Array>
     }
     let array = Array {
         role,
-        dimensions,
+        dimensions: dimensions as u8,
         extents,
         size,
     };
@@ -156,13 +156,13 @@ fn array_at(s: &[u8], at: usize, after: bool, before: usize) -> Read<Array>
 // One array more, as number k; `total` cells with it.
 #[tactic(auto, unfolding(crate::specs::Parts::with_array))]
 fn with_array(tables: Tables, k: usize, x: Array, total: usize) -> Tables
-    requires { (k < 16) × (x.dimensions ≤ 3) }
+    requires { k < 16 }
     ensures { result ≡ with_array «tables» k x total }
 {
     let mut all = tables;
     all.arrays = k + 1;
     all.roles[k] = x.role;
-    all.dimensions[k] = x.dimensions as u8;
+    all.dimensions[k] = x.dimensions;
     let extents = x.extents;
     all.extents[3 * k] = extents[0];
     all.extents[3 * k + 1] = extents[1];
