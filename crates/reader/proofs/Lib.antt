@@ -5,6 +5,7 @@ pub mod Depth
 pub mod Lists
 pub mod Bytes
 pub mod Steps
+pub mod Affine
 pub mod Words
 pub mod Packing
 pub mod Forward

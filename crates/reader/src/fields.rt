@@ -43,18 +43,14 @@ pub fn i16_of(w: u16) -> i16
 pub fn has(s: &[u8], at: usize, n: usize) -> bool
     ensures { result ≡ leb (at + n) (length s.now) }
 {
-    if at <= s.len() {
-        n <= s.len() - at
-    } else {
-        false
-    }
+    at <= s.len() && n <= s.len() - at
 }
 
 // How many bytes are left from `at` on, 0 where it lies behind the last.
 pub(crate) fn left_at(s: &[u8], at: usize) -> usize
     ensures { result ≡ length s.now - at }
 {
-    if at <= s.len() { s.len() - at } else { 0 }
+    s.len().saturating_sub(at)
 }
 
 // Two bytes as a number, the lower first.
@@ -62,20 +58,6 @@ pub fn pair(a: u8, b: u8) -> u16
     ensures { result ≡ a + 256 * b }
 {
     a as u16 + 256 * (b as u16)
-}
-
-// Three bytes as a number, the lowest first.
-fn triple(a: u8, b: u8, c: u8) -> usize
-    ensures { result ≡ a + 256 * (b + 256 * c) }
-{
-    a as usize + 256 * (b as usize + 256 * (c as usize))
-}
-
-// Four bytes as a number, the lowest first.
-pub(crate) fn quad(a: u8, b: u8, c: u8, d: u8) -> usize
-    ensures { result ≡ a + 256 * (b + 256 * (c + 256 * d)) }
-{
-    a as usize + 256 * (b as usize + 256 * (c as usize + 256 * (d as usize)))
 }
 
 #[tactic(auto, unfolding(crate::specs::Field::byte, crate::specs::Field::field))]
@@ -106,7 +88,8 @@ fn u24_at(s: &[u8], at: usize) -> Read<usize>
     ensures { read_says result ≡ field 3 s.now at }
 {
     if has(s, at, 3) {
-        Ok((triple(s[at], s[at + 1], s[at + 2]), at + 3))
+        let x = u32::from_le_bytes([s[at], s[at + 1], s[at + 2], 0]);
+        Ok((x as usize, at + 3))
     } else {
         Err(Question::Cut.at(at))
     }
@@ -118,7 +101,8 @@ pub fn name_at(s: &[u8], at: usize) -> Read<usize>
     ensures { read_says result ≡ u32 s.now at }
 {
     if has(s, at, 4) {
-        Ok((quad(s[at], s[at + 1], s[at + 2], s[at + 3]), at + 4))
+        let x = u32::from_le_bytes([s[at], s[at + 1], s[at + 2], s[at + 3]]);
+        Ok((x as usize, at + 4))
     } else {
         Err(Question::Cut.at(at))
     }

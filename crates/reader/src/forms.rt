@@ -6,7 +6,7 @@ ghost use Rattle.std.specs.Int.{w8};
 ghost use Rattle.std.proofs.Common.{to_z};
 ghost use Rattle.reader.specs.Entries.{padded, signeds, bytes_of, Before, form_step, form_in, filled};
 
-use crate::fields::{Read, has, i8_of, i16_of, pair, quad};
+use crate::fields::{Read, has, i8_of, i16_of, pair};
 use model::question::{Question, Refusal};
 
 // Coefficients beyond the loops are 0.
@@ -17,6 +17,7 @@ pub struct Form {
 }
 
 // The end of a form. Each coefficient is a field of one byte, so the first that is missing stands at the end of the bytes.
+#[tactic(auto, using(crate::proofs::Affine::form_all, crate::proofs::Affine::form_cut, crate::proofs::Affine::form_short), unfolding(crate::specs::Answers::through))]
 pub(crate) fn form_end(s: &[u8], at: usize, loops: usize) -> Result<usize, Refusal>
     ensures { place_says result ≡ ended (form loops s.now at) }
 {
@@ -31,48 +32,21 @@ pub(crate) fn form_end(s: &[u8], at: usize, loops: usize) -> Result<usize, Refus
     }
 }
 
-// The lowest byte of a number, as two's complement.
-fn low(w: usize) -> i8
-    ensures { result ≡ to_z w8 (w % 256) }
-{
-    i8_of((w % 256) as u8)
-}
-
 // The eight bytes of a number, the lowest first.
 fn bytes_of(w: usize) -> [i8; 8]
     ensures { result ≡ bytes_of 8 w }
 {
-    let w1 = w / 256;
-    let w2 = w1 / 256;
-    let w3 = w2 / 256;
-    let w4 = w3 / 256;
-    let w5 = w4 / 256;
-    let w6 = w5 / 256;
-    let w7 = w6 / 256;
+    let bytes = w.to_le_bytes();
     [
-        low(w),
-        low(w1),
-        low(w2),
-        low(w3),
-        low(w4),
-        low(w5),
-        low(w6),
-        low(w7),
+        i8_of(bytes[0]),
+        i8_of(bytes[1]),
+        i8_of(bytes[2]),
+        i8_of(bytes[3]),
+        i8_of(bytes[4]),
+        i8_of(bytes[5]),
+        i8_of(bytes[6]),
+        i8_of(bytes[7]),
     ]
-}
-
-// Eight bytes as a number, the lowest first.
-fn octuple(a: u8, b: u8, c: u8, d: u8, e: u8, f: u8, g: u8, h: u8) -> usize
-    ensures { result ≡ a + 256 * (b + 256 * (c + 256 * (d + 256 * (e + 256 * (f + 256 * (g + 256 * h)))))) }
-{
-    quad(a, b, c, d) + 4294967296 * quad(e, f, g, h)
-}
-
-// A number whose bytes move down by one, with b on top.
-fn shift_in(w: usize, b: u8) -> usize
-    ensures { result ≡ w / 256 + 72057594037927936 * b }
-{
-    w / 256 + 72057594037927936 * (b as usize)
 }
 
 // The eight bytes from `at` on as a number, the lowest first: one load.
@@ -80,7 +54,7 @@ fn eight_at(s: &[u8], at: usize) -> usize
     requires { at + 8 ≤ length s.now }
     ensures { Before s.now (at + 8) result }
 {
-    octuple(
+    usize::from_le_bytes([
         s[at],
         s[at + 1],
         s[at + 2],
@@ -89,24 +63,21 @@ fn eight_at(s: &[u8], at: usize) -> usize
         s[at + 5],
         s[at + 6],
         s[at + 7],
-    )
+    ])
 }
 
-// The bytes before `end`, where there are fewer than eight. No form of a program stands there.
+// The bytes before `end`, where there are fewer than eight, with zeros before them. No form of a program stands there.
 fn fewer_before(s: &[u8], end: usize) -> usize
-    requires { end ≤ length s.now }
+    requires { (end < 8) × (end ≤ length s.now) }
     ensures { Before s.now end result }
 {
-    let mut word: usize = 0;
-    let mut k: usize = 0;
-    while k < end {
-        word = shift_in(word, s[k]);
-        k += 1;
-    }
-    word
+    let mut bytes = [0u8; 8];
+    bytes[8 - end..].copy_from_slice(&s[..end]);
+    usize::from_le_bytes(bytes)
 }
 
 // The eight bytes before `end` as a number, the lowest first.
+#[tactic(auto, using(crate::proofs::Words::same_before))]
 fn eight_before(s: &[u8], end: usize) -> usize
     requires { end ≤ length s.now }
     ensures { Before s.now end result }
@@ -120,6 +91,7 @@ fn eight_before(s: &[u8], end: usize) -> usize
 
 // The coefficients are the last of the eight bytes before the form's end; the shift drops the others and leaves zeros behind them.
 // So the array is made by a load and a shift, and goes by value in one register; and nothing is read beyond the form.
+#[tactic(auto, using(crate::proofs::Words::coefficients_are))]
 fn coefficients_of(s: &[u8], at: usize, loops: usize) -> [i8; 8]
     requires { (loops ≤ 8) × (at + loops ≤ length s.now) }
     ensures { result ≡ padded 8 (pos 0) (signeds loops s.now at) }
@@ -129,6 +101,7 @@ fn coefficients_of(s: &[u8], at: usize, loops: usize) -> [i8; 8]
 }
 
 // A form inside so many loops, 8 at most.
+#[tactic(auto, using(crate::proofs::Affine::form_all, crate::proofs::Affine::form_cut, crate::proofs::Affine::form_short, crate::proofs::Affine::take_signeds), unfolding(crate::specs::Answers::through, crate::specs::Entries::form_step))]
 pub fn form_at(s: &[u8], at: usize, loops: usize) -> Read<Form>
     ensures says { through (form_in loops) (read_says result) ≡ form_step loops s.now at }
     ensures holds { read_says result ≡ through filled (form_step loops s.now at) }
