@@ -9,6 +9,7 @@ pub mod Affine
 pub mod Words
 pub mod Packing
 pub mod Forward
+pub mod Nodes
 pub mod Stores
 pub mod Flattened
 pub mod Laws

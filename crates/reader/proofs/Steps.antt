@@ -1,10 +1,9 @@
 -- Steps of a proof that code answers what a reader says: at each call that the code matched on, the reader's first part was got or refused.
 use mathlib.Core.Path.{◌≡◌, refl, sym, ap, ◌∙◌}
-use Prim.Native.Nat.{ℕ, zero, suc, ◌-◌, ◌<◌, ◌≤◌}
+use Prim.Native.Nat.{ℕ, zero, suc, ◌+◌, ◌<◌, ◌≤◌}
 use mathlib.Core.List.{List}
 use mathlib.Core.Bool.{Bool, true, false, false≢true}
 use native.Mathlib.Omega.{arith}
-use native.Mathlib.Numerals.{sub-one}
 use lib.IntN.{ℤ}
 use Rattle.std.specs.Prelude.{Result, Ok, Err, IsErr, IsErrAnd}
 use Rattle.model.specs.Questions.{number_of}
@@ -108,18 +107,19 @@ module _ {A B : Type 0} (none : B) (more : A → B → B) (one : Reader A) (s : 
   times_end zero at h = refl
   times_end (suc n) at h = absurd (omega arith)
 
-  pub times-stop : (n at : ℕ) {r : Result ℕ Refusal} {f : Refusal} → 0 < n → place_says r ≡ ended (one s at) → r ≡ Err f → no (number_of f.question) f.place ≡ ended (times none more one n s at)
+  pub times_stop : (n at : ℕ) {r : Result ℕ Refusal} {f : Refusal} → 0 < n → place_says r ≡ ended (one s at) → r ≡ Err f → no (number_of f.question) f.place ≡ ended (times none more one n s at)
   unfolding times
-  times-stop zero at h e q = absurd (omega arith)
-  times-stop (suc n) at h e q = stop ended (one s at) _ (ended_no (one s at) e q) (refused _ refl)
+  times_stop zero at h e q = absurd (omega arith)
+  times_stop (suc n) at h e q = stop ended (one s at) _ (ended_no (one s at) e q) (refused _ refl)
 
-  pub times-step : (n at : ℕ) {r : Result ℕ Refusal} {next : ℕ} → 0 < n → place_says r ≡ ended (one s at) → r ≡ Ok next →
-      ended (times none more one (n - 1) s next) ≡ ended (times none more one n s at)
+  pub times_step : (n l at : ℕ) {r : Result ℕ Refusal} {next : ℕ} → n ≡ l + 1 → place_says r ≡ ended (one s at) → r ≡ Ok next →
+      ended (times none more one l s next) ≡ ended (times none more one n s at)
   unfolding times
-  times-step zero at h e q = absurd (omega arith)
-  times-step (suc n) at {next = next} h e q =
+  times_step zero l at h e q = absurd (omega arith)
+  times_step (suc n) l at {next = next} h e q =
       let i = ended-got (one s at) e q in
-      simp sub-one (step ended (one s at) _ i.1 (kept (times none more one n s next) (more i.0)))
+      let w : l ≡ n = omega arith in
+      rw w (step ended (one s at) _ i.1 (kept (times none more one n s next) (more i.0)))
 
 -- the same made of a value
 pub through_same : {A B : Type 0} (f g : A → B) (m : Outcome A) → ((a : A) → f a ≡ g a) → through f m ≡ through g m

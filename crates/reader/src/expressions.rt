@@ -13,6 +13,7 @@ use crate::tables::{FlatTables, arity_of, array_count, dimensions_of, operator_c
 use model::question::{Question, Refusal};
 
 // The end of n forms in a row.
+#[tactic(auto, using(crate::proofs::Steps::times_end, crate::proofs::Steps::times_stop, crate::proofs::Steps::times_step))]
 pub(crate) fn forms_past(s: &[u8], at: usize, loops: usize, n: usize) -> Result<usize, Refusal>
     ensures { place_says result ≡ ended (times [] ◌∷◌ (form loops) n s.now at) }
 {
@@ -24,6 +25,7 @@ pub(crate) fn forms_past(s: &[u8], at: usize, loops: usize, n: usize) -> Result<
 }
 
 // The end of n forms in a row inside any number of loops. Beyond 8 it is 12, of no form too.
+#[tactic(auto, unfolding(crate::specs::Answers::through, crate::specs::Entries::forms_step))]
 pub fn forms_end(s: &[u8], at: usize, loops: usize, n: usize) -> Result<usize, Refusal>
     ensures { place_says result ≡ ended (forms_step loops n s.now at) }
 {
@@ -33,6 +35,7 @@ pub fn forms_end(s: &[u8], at: usize, loops: usize, n: usize) -> Result<usize, R
     forms_past(s, at, loops, n)
 }
 
+#[tactic(auto, using(crate::proofs::Steps::kept), unfolding(crate::specs::Answers::through, crate::specs::Grammar::read_of, crate::specs::Grammar::subscripts))]
 fn read_end(s: &[u8], at: usize, tables: &FlatTables, loops: usize) -> Result<usize, Refusal>
     ensures { place_says result ≡ ended (read_of (tables_in tables.now) loops s.now at) }
 {
@@ -40,6 +43,7 @@ fn read_end(s: &[u8], at: usize, tables: &FlatTables, loops: usize) -> Result<us
     forms_past(s, next, loops, dimensions_of(tables, array))
 }
 
+#[tactic(auto, unfolding(crate::specs::Answers::through, crate::specs::Grammar::constant_of))]
 fn constant_end(s: &[u8], at: usize, tables: &FlatTables, loops: usize) -> Result<usize, Refusal>
     ensures { place_says result ≡ ended (constant_of (tables_in tables.now) loops s.now at) }
 {
@@ -48,6 +52,7 @@ fn constant_end(s: &[u8], at: usize, tables: &FlatTables, loops: usize) -> Resul
 }
 
 // What follows the code of a read, a literal or a constant, which stands at `at`: one node.
+#[tactic(auto, unfolding(crate::specs::Answers::through, crate::specs::Entries::leaf_of, crate::specs::Grammar::literal_of, crate::specs::Syntax::count, crate::specs::Grammar::read_of, crate::specs::Grammar::subscripts, crate::specs::Grammar::constant_of))]
 fn leaf_end(
     s: &[u8],
     at: usize,
@@ -68,6 +73,7 @@ fn leaf_end(
 }
 
 // The arity of the operator whose code stands at `code`, and the place behind its number. 12 is asked before that is read.
+#[tactic(auto, unfolding(crate::specs::Answers::through, crate::specs::Entries::arity_step))]
 fn operator_at(s: &[u8], code: usize, at: usize, tables: &FlatTables, left: usize) -> Read<usize>
     ensures { read_says result ≡ arity_step (tables_in tables.now) left code s.now at }
 {
@@ -80,6 +86,7 @@ fn operator_at(s: &[u8], code: usize, at: usize, tables: &FlatTables, left: usiz
 
 // A node at `at`, in which operators may nest `left` deep: its nodes and its end. It and `args` call each other. What falls: an
 // operator takes two bytes and a level of nesting from its arguments; an argument begins no earlier than the first of them.
+#[tactic(auto, using(crate::proofs::Nodes::node_fits, crate::proofs::Nodes::args_fits, crate::proofs::Nodes::arity_held, crate::proofs::Nodes::code_fits), unfolding(crate::specs::Answers::through, crate::specs::Grammar::node, crate::specs::Entries::leaf_of, crate::specs::Grammar::applied, crate::specs::Grammar::apply_of, crate::specs::Entries::arity_step, crate::specs::Syntax::count))]
 #[cycle(args_node)]
 fn node(s: &[u8], at: usize, tables: &FlatTables, loops: usize, left: usize) -> Read<usize>
     ensures { read_says result ≡ through count (node_of (tables_in tables.now) loops (applied (tables_in tables.now) loops left) s.now at) }
@@ -94,6 +101,7 @@ fn node(s: &[u8], at: usize, tables: &FlatTables, loops: usize, left: usize) -> 
 }
 
 // The n arguments that remain: the nodes of all, and their end. A loop reads them, so calls nest as deep as operators do.
+#[tactic(auto, using(crate::proofs::Nodes::args_end, crate::proofs::Nodes::args_stop, crate::proofs::Nodes::args_step, crate::proofs::Nodes::node_fits), unfolding(crate::specs::Answers::through))]
 #[cycle(args_node)]
 fn args(
     s: &[u8],
@@ -116,6 +124,7 @@ fn args(
 }
 
 // The expression at `at`: the number of its nodes and the place past it.
+#[tactic(auto, unfolding(crate::specs::Grammar::expression))]
 pub(crate) fn expression_past(s: &[u8], at: usize, tables: &FlatTables, loops: usize) -> Read<usize>
     ensures { read_says result ≡ through count (expression (tables_in tables.now) loops s.now at) }
 {
@@ -123,6 +132,7 @@ pub(crate) fn expression_past(s: &[u8], at: usize, tables: &FlatTables, loops: u
 }
 
 // The same inside any number of loops; beyond 8 it is 12.
+#[tactic(auto, unfolding(crate::specs::Answers::through, crate::specs::Entries::expression_step))]
 pub fn expression_end(s: &[u8], at: usize, tables: &FlatTables, loops: usize) -> Read<usize>
     ensures { read_says result ≡ through count (expression_step (tables_in tables.now) loops s.now at) }
 {
