@@ -10,6 +10,7 @@ pub mod Words
 pub mod Packing
 pub mod Forward
 pub mod Nodes
+pub mod Runs
 pub mod Stores
 pub mod Flattened
 pub mod Laws

@@ -35,7 +35,7 @@ pub fn forms_end(s: &[u8], at: usize, loops: usize, n: usize) -> Result<usize, R
     forms_past(s, at, loops, n)
 }
 
-#[tactic(auto, using(crate::proofs::Steps::kept), unfolding(crate::specs::Answers::through, crate::specs::Grammar::read_of, crate::specs::Grammar::subscripts))]
+#[tactic(auto, unfolding(crate::specs::Answers::through, crate::specs::Grammar::read_of, crate::specs::Grammar::subscripts))]
 fn read_end(s: &[u8], at: usize, tables: &FlatTables, loops: usize) -> Result<usize, Refusal>
     ensures { place_says result ≡ ended (read_of (tables_in tables.now) loops s.now at) }
 {
@@ -86,7 +86,7 @@ fn operator_at(s: &[u8], code: usize, at: usize, tables: &FlatTables, left: usiz
 
 // A node at `at`, in which operators may nest `left` deep: its nodes and its end. It and `args` call each other. What falls: an
 // operator takes two bytes and a level of nesting from its arguments; an argument begins no earlier than the first of them.
-#[tactic(auto, using(crate::proofs::Nodes::node_fits, crate::proofs::Nodes::args_fits, crate::proofs::Nodes::arity_held, crate::proofs::Nodes::code_fits), unfolding(crate::specs::Answers::through, crate::specs::Grammar::node, crate::specs::Entries::leaf_of, crate::specs::Grammar::applied, crate::specs::Grammar::apply_of, crate::specs::Entries::arity_step, crate::specs::Syntax::count))]
+#[tactic(auto, unfolding(crate::specs::Answers::through, crate::specs::Grammar::node, crate::specs::Entries::leaf_of, crate::specs::Grammar::applied, crate::specs::Grammar::apply_of, crate::specs::Entries::arity_step, crate::specs::Syntax::count))]
 #[cycle(args_node)]
 fn node(s: &[u8], at: usize, tables: &FlatTables, loops: usize, left: usize) -> Read<usize>
     ensures { read_says result ≡ through count (node_of (tables_in tables.now) loops (applied (tables_in tables.now) loops left) s.now at) }
@@ -101,7 +101,6 @@ fn node(s: &[u8], at: usize, tables: &FlatTables, loops: usize, left: usize) -> 
 }
 
 // The n arguments that remain: the nodes of all, and their end. A loop reads them, so calls nest as deep as operators do.
-#[tactic(auto, using(crate::proofs::Nodes::args_end, crate::proofs::Nodes::args_stop, crate::proofs::Nodes::args_step, crate::proofs::Nodes::node_fits), unfolding(crate::specs::Answers::through))]
 #[cycle(args_node)]
 fn args(
     s: &[u8],

@@ -13,6 +13,7 @@ use crate::tables::{FlatTables, array_count, dimensions_of, role_of};
 use model::question::{Question, Refusal};
 
 // What follows a statement's code, wherever that stands.
+#[tactic(auto, unfolding(crate::specs::Answers::through, crate::specs::Grammar::statement_of, crate::specs::Grammar::subscripts))]
 fn statement_end(s: &[u8], at: usize, tables: &FlatTables, loops: usize) -> Result<usize, Refusal>
     ensures { (p : ℕ) → place_says result ≡ ended (statement_of (tables_in tables.now) loops p s.now at) }
 {
@@ -26,6 +27,7 @@ fn statement_end(s: &[u8], at: usize, tables: &FlatTables, loops: usize) -> Resu
 }
 
 // A loop's start, end and step: where its own items, whatever reads them, begin.
+#[tactic(auto, unfolding(crate::specs::Answers::through, crate::specs::Grammar::loop_of))]
 fn loop_head_end(s: &[u8], at: usize, loops: usize) -> Result<usize, Refusal>
     ensures { (own : Reader Items) (p : ℕ) → continued result (λ next. ended (own s.now next)) ≡ ended (loop_of loops own p s.now at) }
 {
@@ -59,6 +61,7 @@ fn run(
 }
 
 // What follows an item's code, which stands at `at`.
+#[tactic(auto, unfolding(crate::specs::Answers::through, crate::specs::Grammar::item_of))]
 #[cycle(around_item_run)]
 fn item(
     s: &[u8],
@@ -79,6 +82,7 @@ fn item(
 }
 
 // What follows the code of a loop (2) or a guard (3) at `at`: its forms, and a run of its own.
+#[tactic(auto, using(crate::proofs::Runs::guard_is), unfolding(crate::specs::Answers::through, crate::specs::Grammar::nested, crate::specs::Grammar::guard_of))]
 #[cycle(around_item_run)]
 fn around(
     s: &[u8],
@@ -104,6 +108,7 @@ fn around(
 }
 
 // The end of a run of items inside so many loops, where loops and guards may still nest `left` deep. More than 8 together is 12.
+#[tactic(auto, unfolding(crate::specs::Answers::through, crate::specs::Entries::items_step))]
 pub fn items_end(
     s: &[u8],
     at: usize,
@@ -113,10 +118,7 @@ pub fn items_end(
 ) -> Result<usize, Refusal>
     ensures { place_says result ≡ ended (items_step (tables_in tables.now) left loops s.now at) }
 {
-    if 8 < left {
-        return Err(Question::Depth.at(at));
-    }
-    if 8 - left < loops {
+    if 8 < left || 8 - left < loops {
         return Err(Question::Depth.at(at));
     }
     run(s, at, tables, left, loops)
