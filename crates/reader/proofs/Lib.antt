@@ -16,3 +16,4 @@ pub mod Flattened
 pub mod Laws
 pub mod Questions
 pub mod Heads
+pub mod Whole
