@@ -70,10 +70,10 @@ module _ {A : Type 0} (one : Reader A) (s : List ℕ) where
     row_none zero at h e = rw e
     row_none (suc n) at h e = absurd (omega arith)
 
-    pub row-stop : (n at : ℕ) {r : Result (A × ℕ) Refusal} {e : Refusal} → 0 < n → read_says r ≡ one s at → r ≡ Err e → refusal_says e ≡ through f (times [] ◌∷◌ one n s at)
+    pub row_stop : (n at : ℕ) {r : Result (A × ℕ) Refusal} {e : Refusal} → 0 < n → read_says r ≡ one s at → r ≡ Err e → refusal_says e ≡ through f (times [] ◌∷◌ one n s at)
     unfolding times through
-    row-stop zero at h e q = absurd (omega arith)
-    row-stop (suc n) at h e q = rw (read_no e q)
+    row_stop zero at h e q = absurd (omega arith)
+    row_stop (suc n) at h e q = rw (read_no e q)
 
 -- at most three extents, of at most 1,024
 pub size_more : (k size x : ℕ) → size ≤ 1024 ^ k → x ≤ 1024 → size * x ≤ 1024 ^ (k + 1)
@@ -107,11 +107,11 @@ module _ (s : List ℕ) where
   arrays_none f zero after before at h = refl
   arrays_none f (suc n) after before at h = absurd (omega arith)
 
-  pub arrays-stop : (f : List Array → Packed) (n : ℕ) (after : Bool) (before at : ℕ) {r : Result (Filled × ℕ) Refusal} {e : Refusal} →
+  pub arrays_stop : (f : List Array → Packed) (n : ℕ) (after : Bool) (before at : ℕ) {r : Result (Filled × ℕ) Refusal} {e : Refusal} →
       read_says r ≡ through array_in (array after before s at) → r ≡ Err e → 0 < n → refusal_says e ≡ through f (arrays n after before s at)
   unfolding arrays through
-  arrays-stop f zero after before at e w h = absurd (omega arith)
-  arrays-stop f (suc n) after before at e w h = rw (made_no array_in _ e w)
+  arrays_stop f zero after before at e w h = absurd (omega arith)
+  arrays_stop f (suc n) after before at e w h = rw (made_no array_in _ e w)
 
   pub arrays_more : (n m : ℕ) (after : Bool) (before at : ℕ) (t u : Packed) (k b : ℕ) (a : Array) {x : Filled} {next : ℕ} →
       array after before s at ≡ got a next → array_in a ≡ x → n ≡ suc m → u ≡ with_array t k x b → b ≡ before + x.size →

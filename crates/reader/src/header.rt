@@ -46,6 +46,7 @@ fn operator_byte_at(s: &[u8], at: usize, version: usize) -> Read<u8>
 }
 
 // The bytes of n operators.
+#[tactic(auto, using(crate::proofs::Heads::row_stop, crate::proofs::Heads::row_none))]
 fn operators_at(s: &[u8], at: usize, version: usize, n: usize) -> Read<[u8; 16]>
     requires { n ≤ 16 }
     ensures { read_says result ≡ through (padded 16 0) (times [] ◌∷◌ (operator_of version) n s.now at) }
@@ -133,6 +134,7 @@ struct Array {
 }
 
 // An array, where a local came just before it or not, and so many cells before it.
+#[tactic(auto, using(crate::proofs::Heads::array_parts), unfolding(crate::specs::Answers::through))]
 fn array_at(s: &[u8], at: usize, after: bool, before: usize) -> Read<Array>
     requires { before ≤ 2048 }
     ensures says { read_says result ≡ through array_in (array_reader after before s.now at) }
@@ -191,6 +193,7 @@ fn arrays_at(s: &[u8], at: usize, n: usize, empty: Tables) -> Read<Tables>
 }
 
 // The array table, behind an operator table that was read.
+#[tactic(auto, using(crate::proofs::Heads::array_table_parts), unfolding(crate::specs::Answers::through))]
 fn arrays_of(s: &[u8], at: usize, operators: usize, bytes: [u8; 16]) -> Read<Tables>
     ensures { (ops : List ℕ) → length ops ≡ operators → bytes ≡ padded 16 0 ops → read_says result ≡ through (λ xs. packed (record { operators = ops; arrays = xs })) (array_table s.now at) }
 {
@@ -208,6 +211,7 @@ fn arrays_of(s: &[u8], at: usize, operators: usize, bytes: [u8; 16]) -> Read<Tab
 }
 
 // The operator table and the array table of a file, whatever its length.
+#[tactic(auto, using(crate::proofs::Heads::tables_parts), unfolding(crate::specs::Answers::through))]
 fn tables_at(s: &[u8], at: usize) -> Read<Tables>
     ensures { read_says result ≡ through packed (tables s.now at) }
 {

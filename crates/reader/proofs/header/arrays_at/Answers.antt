@@ -3,11 +3,11 @@ use native.Mathlib.Omega.{arith}
 use Rattle.reader.specs.Answers.{read_says}
 use Rattle.reader.specs.Parts.{array_in}
 use Rattle.reader.proofs.Steps.{handed, made-got}
-use Rattle.reader.proofs.Heads.{arrays_none, arrays-stop, arrays_more}
+use Rattle.reader.proofs.Heads.{arrays_none, arrays_stop, arrays_more}
 use Rattle.reader.proofs.header.arrays_at.Goals as goal
 
 pub returns-in_err-x : goal.returns-in_err-x
-returns-in_err-x c = ap read_says (handed c.from_residual.ensures) ∙ arrays-stop _ _ _ _ _ _ c.array_at.ensures.says c.in_err-x.was (omega arith) ∙ c.loop-k.invariant.says
+returns-in_err-x c = ap read_says (handed c.from_residual.ensures) ∙ arrays_stop _ _ _ _ _ _ c.array_at.ensures.says c.in_err-x.was (omega arith) ∙ c.loop-k.invariant.says
 
 pub loop-k-preserved : goal.loop-k-preserved
 loop-k-preserved c = let g = made-got array_in _ c.array_at.ensures.says c.in_ok-x.was in record {

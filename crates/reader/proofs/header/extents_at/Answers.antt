@@ -5,7 +5,7 @@ use native.Mathlib.Numerals.{add-one}
 use native.Mathlib.Nat.{mul_assoc, mul-one, one-mul}
 use Rattle.reader.specs.Answers.{read_says}
 use Rattle.reader.proofs.Steps.{handed}
-use Rattle.reader.proofs.Heads.{padded_sets, row_start, row_none, row-stop, row_more, size_more, size_below}
+use Rattle.reader.proofs.Heads.{padded_sets, row_start, row_none, row_stop, row_more, size_more, size_below}
 use Rattle.reader.proofs.header.extents_at.Goals as goal
 
 pub loop-k-init : goal.loop-k-init
@@ -15,7 +15,7 @@ loop-k-init c = record {
 }
 
 pub returns-in_err-x-clause-says : goal.returns-in_err-x-clause-says
-returns-in_err-x-clause-says c = ap read_says (handed c.from_residual.ensures) ∙ row-stop _ _ _ _ _ (omega arith) c.extent_at.ensures.says c.in_err-x.was ∙ c.loop-k.invariant.says
+returns-in_err-x-clause-says c = ap read_says (handed c.from_residual.ensures) ∙ row_stop _ _ _ _ _ (omega arith) c.extent_at.ensures.says c.in_err-x.was ∙ c.loop-k.invariant.says
 
 pub overflow_mul-size : goal.overflow_mul-size
 overflow_mul-size c = omega (arith, size_below (c.loop-k.k + 1) _ (omega arith) (size_more _ _ c.from-size.result c.loop-k.invariant.most (omega (arith, c.in_ok-x.ensures.most))))

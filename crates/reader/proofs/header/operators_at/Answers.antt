@@ -3,17 +3,11 @@ use native.Mathlib.Omega.{arith}
 use native.Mathlib.Numerals.{add-one}
 use Rattle.reader.specs.Answers.{read_says}
 use Rattle.reader.proofs.Steps.{handed}
-use Rattle.reader.proofs.Heads.{padded_sets, row_start, row_none, row-stop, row_more}
+use Rattle.reader.proofs.Heads.{padded_sets, row_start, row_none, row_stop, row_more}
 use Rattle.reader.proofs.header.operators_at.Goals as goal
 
 pub loop-k-init : goal.loop-k-init
 loop-k-init c = row_start _ _ _ _ _ _ _ (omega arith) λ l e. padded_sets 16 0 l (omega arith)
 
-pub returns-in_err-x : goal.returns-in_err-x
-returns-in_err-x c = ap read_says (handed c.from_residual.ensures) ∙ row-stop _ _ _ _ _ (omega arith) c.operator_byte_at.ensures c.in_err-x.was ∙ c.loop-k.invariant
-
 pub loop-k-preserved : goal.loop-k-preserved
 loop-k-preserved c = row_more _ _ _ _ _ _ _ c.operator_byte_at.ensures c.in_ok-x.was (omega arith) (λ l. rw add-one) ∙ c.loop-k.invariant
-
-pub returns : goal.returns
-returns c = row_none _ _ _ _ _ (omega arith) refl ∙ c.loop-k.invariant
