@@ -108,6 +108,7 @@ struct Extents {
     size: usize,
 }
 
+#[tactic(auto, using(crate::proofs::Heads::row_stop, crate::proofs::Heads::row_none))]
 fn extents_at(s: &[u8], at: usize, n: usize) -> Read<Extents>
     requires { n ≤ 3 }
     ensures says { read_says result ≡ through extents_in (times [] ◌∷◌ extent n s.now at) }
@@ -174,6 +175,7 @@ fn with_array(tables: Tables, k: usize, x: Array, total: usize) -> Tables
 }
 
 // n arrays, put into tables that hold none.
+#[tactic(auto, using(crate::proofs::Heads::arrays_stop, crate::proofs::Heads::arrays_none))]
 fn arrays_at(s: &[u8], at: usize, n: usize, empty: Tables) -> Read<Tables>
     requires { n ≤ 16 }
     ensures { read_says result ≡ through (stored empty 0 0) (arrays_reader n false 0 s.now at) }
@@ -222,6 +224,7 @@ fn tables_at(s: &[u8], at: usize) -> Read<Tables>
 }
 
 // The tables of a program, and the place of its first item. 2 is asked first.
+#[tactic(auto, using(crate::proofs::Heads::tables_back), unfolding(crate::specs::Entries::tables_step, crate::specs::Answers::through))]
 pub fn tables_of(program: &[u8]) -> Read<Tables>
     ensures says { through unpacked (read_says result) ≡ tables_step program.now }
     ensures holds { read_says result ≡ through packed (tables_step program.now) }

@@ -6,14 +6,8 @@ use Rattle.reader.proofs.Steps.{handed, made-got}
 use Rattle.reader.proofs.Heads.{arrays_none, arrays_stop, arrays_more}
 use Rattle.reader.proofs.header.arrays_at.Goals as goal
 
-pub returns-in_err-x : goal.returns-in_err-x
-returns-in_err-x c = ap read_says (handed c.from_residual.ensures) ∙ arrays_stop _ _ _ _ _ _ c.array_at.ensures.says c.in_err-x.was (omega arith) ∙ c.loop-k.invariant.says
-
 pub loop-k-preserved : goal.loop-k-preserved
 loop-k-preserved c = let g = made-got array_in _ c.array_at.ensures.says c.in_ok-x.was in record {
   says = arrays_more _ _ _ _ _ _ _ _ _ _ g.0 g.1 g.2 (omega arith) c.with_array-tables.ensures refl ∙ c.loop-k.invariant.says;
   most = omega (arith, c.in_ok-x.ensures.most);
 }
-
-pub returns : goal.returns
-returns c = arrays_none _ _ _ _ _ _ (omega arith) ∙ c.loop-k.invariant.says

@@ -14,9 +14,6 @@ loop-k-init c = record {
   most = omega arith;
 }
 
-pub returns-in_err-x-clause-says : goal.returns-in_err-x-clause-says
-returns-in_err-x-clause-says c = ap read_says (handed c.from_residual.ensures) ∙ row_stop _ _ _ _ _ (omega arith) c.extent_at.ensures.says c.in_err-x.was ∙ c.loop-k.invariant.says
-
 pub overflow_mul-size : goal.overflow_mul-size
 overflow_mul-size c = omega (arith, size_below (c.loop-k.k + 1) _ (omega arith) (size_more _ _ c.from-size.result c.loop-k.invariant.most (omega (arith, c.in_ok-x.ensures.most))))
 
@@ -26,8 +23,5 @@ loop-k-preserved c = record {
   most = size_more _ _ _ c.loop-k.invariant.most (omega (arith, c.in_ok-x.ensures.most));
 }
 
-pub returns : goal.returns
-returns c = record {
-  says = row_none _ _ _ _ _ (omega arith) (rw mul-one) ∙ c.loop-k.invariant.says;
-  most = size_below _ _ (omega arith) c.loop-k.invariant.most;
-}
+pub returns-clause-most : goal.returns-clause-most
+returns-clause-most c = size_below _ _ (omega arith) c.loop-k.invariant.most
