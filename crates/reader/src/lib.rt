@@ -20,6 +20,7 @@ pub mod items;
 pub mod tables;
 
 // Whether a file is a program, or the question that was answered no. A program alone is the left one (`verdict_says`).
+#[tactic(auto, using(crate::proofs::Whole::file_parts, crate::proofs::Flattened::tables_flat), unfolding(crate::specs::Verdicts::said, crate::specs::Answers::through))]
 pub fn read_program(program: &[u8]) -> Result<(), Refusal>
     ensures { verdict_says result ≡ said (read_program program.now) }
 {
