@@ -4,10 +4,14 @@ use Prim.Native.Nat.{ℕ, zero, suc, ◌+◌, ◌-◌, ◌*◌, ◌≤◌, ◌<�
 use native.Mathlib.Nat.{add-zero}
 use native.Mathlib.Omega.{arith}
 use mathlib.Core.List.{List, [], ◌∷◌, ◌++◌, append-nil, append_assoc}
-use lib.ListN.{length, get_or, set, drop, length-append, get_or-map, get_or-eq_default}
-use lib.Seq.{sets, sets-eq, get_or_at, drop-length}
+use lib.ListN.{length, get_or, set, take, drop, length-append, get_or-map, get_or-eq_default}
+use lib.Seq.{sets, sets-eq, get_or_at, take-suc, drop-length}
 use Rattle.model.specs.Tables.{array_at, swaps, arity_of, arity_at}
-use Rattle.reader.specs.Entries.{cut, array_of, arrays_of, unpacked, capped, viewed, tables_in, flattened}
+use Rattle.std.specs.List.{AllZip}
+use Rattle.std.proofs.Common.{length-take-le, add-one}
+use Rattle.std.proofs.lemmas.List.{take_all}
+use Rattle.std.proofs.lemmas.List.Elements.{same_from_all_zip}
+use Rattle.reader.specs.Entries.{Puts, cut, array_of, arrays_of, unpacked, capped, viewed, tables_in, flattened}
 use Rattle.reader.specs.declared.tables.Tables.{Tables as Packed}
 use Rattle.reader.proofs.Numbers.{by_order}
 use Rattle.reader.proofs.Packing.{length_cut, get_d_cut, operators_are, arrays_are, operator_in_lem, operator_out, role_in, role_out, dimensions_in, dimensions_out, dimensions-few, extent_in, extent_none}
@@ -31,42 +35,46 @@ unfolding cut
 cut_end l i k ar zero e = refl
 cut_end l i k ar (suc n) e = absurd (omega arith)
 
--- k of n numbers are written from `to` on; what is left makes of the list what the whole makes of the first
-pub record Puts (n : ℕ) (from l₀ : List ℕ) (to k : ℕ) (l : List ℕ) : Type 0 where
-  pub left : ℕ
-  pub sum : left + k ≡ n
-  pub holds : sets l (to + k) (cut left k from) ≡ sets l₀ to (cut n 0 from)
+module _ {A : Type 0} (R : A → ℕ → Type 0) where
+  zip_snoc : (xs : List A) (ys : List ℕ) (x : A) (y : ℕ) → AllZip R xs ys → R x y → AllZip R (xs ++ (x ∷ [])) (ys ++ (y ∷ []))
+  zip_snoc [] [] x y h r = (r, tt)
+  zip_snoc [] (b ∷ ys) x y h r = absurd h
+  zip_snoc (a ∷ xs) [] x y h r = absurd h
+  zip_snoc (a ∷ xs) (b ∷ ys) x y h r = (h.0, zip_snoc xs ys x y h.1 r)
 
-module _ (n : ℕ) (from : List ℕ) where
-  pub puts_none : (l : List ℕ) (to : ℕ) → Puts n from l to 0 l
-  puts_none l to = record { left = n; sum = add-zero n; holds = ap (λ (k : ℕ). sets l k (cut n 0 from)) (add-zero to) }
+  zip_length : (xs : List A) (ys : List ℕ) → AllZip R xs ys → length ys ≡ length xs
+  zip_length [] [] h = refl
+  zip_length [] (b ∷ ys) h = absurd h
+  zip_length (a ∷ xs) [] h = absurd h
+  zip_length (a ∷ xs) (b ∷ ys) h = ap suc (zip_length xs ys h.1)
 
-  module _ (l₀ : List ℕ) (to k : ℕ) (l : List ℕ) where
-    pub puts_more : (x : ℕ) → k < n → x ≡ get_or from k 0 → Puts n from l₀ to k l → Puts n from l₀ to (k + 1) (set l (to + k) x)
-    puts_more x h e a =
-        let s = a.sum in
-        let j : to + (k + 1) ≡ to + k + 1 = omega arith in
+  module _ (from : List A) (l₀ : List ℕ) (to : ℕ) where
+    pub puts_none : Puts R [] l₀ to l₀
+    puts_none = record { numbers = []; each = tt; holds = refl }
+
+    pub puts_more : (k : ℕ) (l : List ℕ) (x : A) (n : ℕ) → k < length from → R (get_or from k x) n → Puts R (take k from) l₀ to l → Puts R (take (k + 1) from) l₀ to (set l (to + k) n)
+    puts_more k l x n h r p =
+        let e : k ≡ length p.numbers = sym (zip_length (take k from) p.numbers p.each ∙ length-take-le k from (omega arith)) in
         record {
-          left = a.left - 1;
-          sum = omega arith;
-          holds = ap (λ (y : ℕ). sets (set l (to + k) y) (to + (k + 1)) (cut (a.left - 1) (k + 1) from)) e ∙ cut_more l (to + k) (to + (k + 1)) k a.left from (omega arith) j ∙ a.holds;
+          numbers = p.numbers ++ (n ∷ []);
+          each = rw (add-one, take-suc from k x h) (zip_snoc (take k from) p.numbers (get_or from k x) n p.each r);
+          holds = ap (λ (m : List ℕ). set m (to + k) n) p.holds ∙ ap (λ (j : ℕ). set (sets l₀ to p.numbers) (to + j) n) e ∙ sym (sets_append l₀ to p.numbers (n ∷ []));
         }
 
-    pub puts_all : n ≤ k → Puts n from l₀ to k l → l ≡ sets l₀ to (cut n 0 from)
-    puts_all h a = let s = a.sum in sym (cut_end l (to + k) k from a.left (omega arith)) ∙ a.holds
+    pub puts_all : (k : ℕ) (l : List ℕ) → length from ≤ k → Puts R (take k from) l₀ to l → Puts R from l₀ to l
+    puts_all k l h p = rw (take_all k from h) at p
+
+cut-whole : (n from : ℕ) (p l : List ℕ) → length p ≡ from → length l ≡ n → cut n from (p ++ l) ≡ l
+cut-whole n from p l e h = ap (λ (m : List ℕ). cut n from (p ++ m)) (sym (append-nil l)) ∙ cut_mid n from p l [] h e
+
+-- numbers that are put as they are
+pub put_same : (n : ℕ) (from l₀ : List ℕ) (to : ℕ) (l : List ℕ) → length from ≡ n → Puts (λ x y. y ≡ x) from l₀ to l → l ≡ sets l₀ to (cut n 0 from)
+put_same n from l₀ to l h p =
+    p.holds ∙ ap (sets l₀ to) (same_from_all_zip (λ x y. y ≡ x) from p.numbers p.each (λ x y e. e) ∙ sym (cut-whole n 0 [] from refl h))
 
 -- numbers of 16 bits
 abbrev pub Words : ℕ → List ℕ → Type 0
 Words n l = (i : ℕ) → i < n → get_or l i 0 < 65536
-
-pub words_none : (l : List ℕ) → Words 0 l
-words_none l i h = absurd (omega arith)
-
-pub words_more : (k : ℕ) (l : List ℕ) (x : ℕ) → x ≡ get_or l k 0 → x < 65536 → Words k l → Words (k + 1) l
-words_more k l x e h w i g = by_order k i (λ q. let z : i ≡ k = omega arith in rw z (omega arith)) (λ q. w i q)
-
-pub words_less : (n k : ℕ) (l : List ℕ) → n ≤ k → Words k l → Words n l
-words_less n k l h w i g = w i (omega arith)
 
 sets-whole : (l vs : List ℕ) → length vs ≡ length l → sets l 0 vs ≡ vs
 sets-whole l vs e =

@@ -1,5 +1,7 @@
 -- What the entries answer beyond the grammar: definitions for every depth and number of loops, and what stands in a result's fields.
 use Rattle.std.specs.Prelude.{ℕ, zero, suc, ◌+◌, ◌-◌, ◌*◌, ◌/◌, ◌%◌, ◌^◌, ◌≤◌, ◌<◌, min, List, [], ◌∷◌, ◌++◌, map, length, get_or, take, replicate, leb, eqb, ℤ, pos, ◌≡◌, Result, Ok, Err, if◌then◌else◌}
+use Rattle.std.specs.List.{AllZip}
+use Rattle.std.proofs.lemmas.List.Edits.{sets}
 use Rattle.std.specs.Int.{w8}
 use Rattle.std.proofs.Common.{to_z}
 use Rattle.reader.specs.Field.{Outcome, got, no, Reader, ◌>>=◌, give, refuse, times}
@@ -110,6 +112,12 @@ viewed l =
 -- the tables that 115 numbers stand for, whatever they are
 unfoldable pub tables_in : List ℕ → Tables
 tables_in l = unpacked (viewed l)
+
+-- the numbers that R makes of `from` stand in l₀ from `to` on
+pub record Puts {A : Type 0} (R : A → ℕ → Type 0) (from : List A) (l₀ : List ℕ) (to : ℕ) (l : List ℕ) : Type 0 where
+  pub numbers : List ℕ
+  pub each : AllZip R from numbers
+  pub holds : l ≡ sets l₀ to numbers
 
 -- the 115 numbers of a `Tables`
 unfoldable pub flattened : Packed → List ℕ

@@ -1,12 +1,9 @@
 // The operator table and the array table, by value and as the numbers that the walks lend, and what these say of an operator or an
 // array.
 ghost use Rattle.std.specs.Prelude.{◌≡◌, ℕ, ◌+◌, ◌≤◌, ◌<◌, min, length, get_or};
-ghost use Rattle.std.proofs.lemmas.List.Edits.{sets};
 ghost use Rattle.model.specs.Tables.{array_at, arity_at};
-ghost use Rattle.reader.specs.Entries.{cut, viewed, tables_in, flattened};
+ghost use Rattle.reader.specs.Entries.{Puts, viewed, tables_in, flattened};
 
-use model::byte::wide;
-use model::numbers::least;
 use model::operator::arity;
 
 // Numbers of tables that are lent as one array (`viewed` says which stand where), and where the bases begin.
@@ -29,41 +26,14 @@ pub struct Tables {
     pub bases: [usize; 17],
 }
 
-fn wide_word(x: u16) -> usize
-    ensures { (result ≡ x) × (result < 65536) }
+// Puts numbers of any width into the flat tables, from `to` on.
+fn put<T: Copy + Into<usize>, const N: usize>(r: &mut FlatTables, to: usize, from: &[T; N])
+    requires { to + N ≤ 115 }
+    ensures puts { Puts T.converts from.now r.old to r.new }
+    ensures long { length from.now ≡ N }
 {
-    x as usize
-}
-
-fn put_bytes(r: &mut FlatTables, to: usize, from: [u8; 16])
-    requires { to + 16 ≤ 115 }
-    ensures { r.new ≡ sets r.old to (cut 16 0 from) }
-{
-    let mut k: usize = 0;
-    while k < 16 {
-        r[to + k] = wide(from[k]);
-        k += 1;
-    }
-}
-
-fn put_extents(r: &mut FlatTables, from: [u16; 48])
-    ensures puts { r.new ≡ sets r.old 50 (cut 48 0 from) }
-    ensures small { (i : ℕ) → i < 48 → get_or from i 0 < 65536 }
-{
-    let mut k: usize = 0;
-    while k < 48 {
-        r[50 + k] = wide_word(from[k]);
-        k += 1;
-    }
-}
-
-fn put_bases(r: &mut FlatTables, from: [usize; 17])
-    ensures { r.new ≡ sets r.old 98 (cut 17 0 from) }
-{
-    let mut k: usize = 0;
-    while k < 17 {
-        r[BASES + k] = from[k];
-        k += 1;
+    for k in 0..N {
+        r[to + k] = from[k].into();
     }
 }
 
@@ -72,32 +42,27 @@ pub fn flat(tables: Tables) -> FlatTables
     ensures numbers { result ≡ flattened «tables» }
     ensures small { (i : ℕ) → i < 48 → get_or «tables».extents i 0 < 65536 }
 {
-    let bytes = tables.bytes;
-    let roles = tables.roles;
-    let dimensions = tables.dimensions;
-    let extents = tables.extents;
-    let bases = tables.bases;
     let mut r = [0usize; FLAT];
     r[0] = tables.operators;
-    put_bytes(&mut r, 1, bytes);
+    put(&mut r, 1, &tables.bytes);
     r[17] = tables.arrays;
-    put_bytes(&mut r, 18, roles);
-    put_bytes(&mut r, 34, dimensions);
-    put_extents(&mut r, extents);
-    put_bases(&mut r, bases);
+    put(&mut r, 18, &tables.roles);
+    put(&mut r, 34, &tables.dimensions);
+    put(&mut r, 50, &tables.extents);
+    put(&mut r, BASES, &tables.bases);
     r
 }
 
 pub fn operator_count(tables: &FlatTables) -> usize
     ensures { result ≡ length (tables_in tables.now).operators }
 {
-    least(tables[0], 16)
+    tables[0].min(16)
 }
 
 pub fn array_count(tables: &FlatTables) -> usize
     ensures { result ≡ length (tables_in tables.now).arrays }
 {
-    least(tables[17], 16)
+    tables[17].min(16)
 }
 
 // The arity of an operator; 0 where it is not declared.
@@ -127,7 +92,7 @@ pub fn dimensions_of(tables: &FlatTables, array: usize) -> usize
     ensures { result ≡ length (array_at (tables_in tables.now).arrays array).extents }
 {
     if array < array_count(tables) {
-        least(tables[34 + array], 3)
+        tables[34 + array].min(3)
     } else {
         1
     }
@@ -137,12 +102,11 @@ pub fn dimensions_of(tables: &FlatTables, array: usize) -> usize
 pub fn extent_of(tables: &FlatTables, array: usize, dimension: usize) -> usize
     ensures { (result ≡ get_or (array_at (tables_in tables.now).arrays array).extents dimension 0) × (result < 65536) }
 {
-    if array < array_count(tables) {
-        if dimension < dimensions_of(tables, array) {
-            return least(tables[50 + 3 * array + dimension], 65535);
-        }
+    if array < array_count(tables) && dimension < dimensions_of(tables, array) {
+        tables[50 + 3 * array + dimension].min(65535)
+    } else {
+        0
     }
-    0
 }
 
 // The number of cells before an array; 0 for one beyond the last.
