@@ -282,24 +282,24 @@ module _ (l : List ℕ) where
     base_none h = sym (get_or-eq_default (cut 17 98 l) 0 (omega (arith, length_cut 17 98 l)))
 
     module _ (k : ℕ) where
-      pub extent-room : a < length (tables_in l).arrays → k < length (array_at (tables_in l).arrays a).extents → 3 * a + k < 48
+      pub extent_room : a < length (tables_in l).arrays → k < length (array_at (tables_in l).arrays a).extents → 3 * a + k < 48
       unfolding tables_in
-      extent-room h g = let m = arrays_are (viewed l) in let n = dimensions-few (viewed l) a in omega arith
+      extent_room h g = let m = arrays_are (viewed l) in let n = dimensions-few (viewed l) a in omega arith
 
       pub extent_at : a < length (tables_in l).arrays → k < length (array_at (tables_in l).arrays a).extents →
           min (get_or l (50 + 3 * a + k) 0) 65535 ≡ get_or (array_at (tables_in l).arrays a).extents k 0
       unfolding tables_in viewed capped
       extent_at h g =
-          let m = extent-room h g in
+          let m = extent_room h g in
           let e : 50 + 3 * a + k ≡ 50 + (3 * a + k) = omega arith in
           ap (λ (j : ℕ). min (get_or l j 0) 65535) e
           ∙ ap (λ (n : ℕ). min n 65535) (sym (get_d_cut 48 50 l (3 * a + k) m))
           ∙ sym (get_or-map (λ (e : ℕ). min e 65535) (cut 48 50 l) (3 * a + k) 0)
           ∙ extent_in (viewed l) a k h g
 
-      pub extent-few : length (array_at (tables_in l).arrays a).extents ≤ k → 0 ≡ get_or (array_at (tables_in l).arrays a).extents k 0
-      extent-few h = sym (get_or-eq_default (array_at (tables_in l).arrays a).extents 0 h)
+      pub extent_few : length (array_at (tables_in l).arrays a).extents ≤ k → 0 ≡ get_or (array_at (tables_in l).arrays a).extents k 0
+      extent_few h = sym (get_or-eq_default (array_at (tables_in l).arrays a).extents 0 h)
 
-      pub extent-not : length (tables_in l).arrays ≤ a → 0 ≡ get_or (array_at (tables_in l).arrays a).extents k 0
+      pub extent_not : length (tables_in l).arrays ≤ a → 0 ≡ get_or (array_at (tables_in l).arrays a).extents k 0
       unfolding tables_in
-      extent-not h = extent_none (viewed l) a k h
+      extent_not h = extent_none (viewed l) a k h

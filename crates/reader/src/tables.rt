@@ -53,12 +53,14 @@ pub fn flat(tables: Tables) -> FlatTables
     r
 }
 
+#[tactic(auto, using(crate::proofs::Flattened::operators_in))]
 pub fn operator_count(tables: &FlatTables) -> usize
     ensures { result ≡ length (tables_in tables.now).operators }
 {
     tables[0].min(16)
 }
 
+#[tactic(auto, using(crate::proofs::Flattened::arrays_in))]
 pub fn array_count(tables: &FlatTables) -> usize
     ensures { result ≡ length (tables_in tables.now).arrays }
 {
@@ -66,6 +68,7 @@ pub fn array_count(tables: &FlatTables) -> usize
 }
 
 // The arity of an operator; 0 where it is not declared.
+#[tactic(auto, using(crate::proofs::Flattened::operators_in, crate::proofs::Flattened::operator_at, crate::proofs::Flattened::arity_none))]
 pub fn arity_of(tables: &FlatTables, operator: usize) -> usize
     ensures { result ≡ arity_at (tables_in tables.now).operators operator }
 {
@@ -77,6 +80,7 @@ pub fn arity_of(tables: &FlatTables, operator: usize) -> usize
 }
 
 // The role of an array; an undeclared one counts as a local.
+#[tactic(auto, using(crate::proofs::Flattened::arrays_in, crate::proofs::Flattened::role_at_lem, crate::proofs::Flattened::role_none))]
 pub fn role_of(tables: &FlatTables, array: usize) -> usize
     ensures { result ≡ (array_at (tables_in tables.now).arrays array).role }
 {
@@ -88,6 +92,7 @@ pub fn role_of(tables: &FlatTables, array: usize) -> usize
 }
 
 // The number of an array's dimensions; an undeclared one has one.
+#[tactic(auto, using(crate::proofs::Flattened::arrays_in, crate::proofs::Flattened::dimensions_at_lem, crate::proofs::Flattened::dimensions_none))]
 pub fn dimensions_of(tables: &FlatTables, array: usize) -> usize
     ensures { result ≡ length (array_at (tables_in tables.now).arrays array).extents }
 {
@@ -99,6 +104,7 @@ pub fn dimensions_of(tables: &FlatTables, array: usize) -> usize
 }
 
 // 0 where the array is not declared, or has fewer dimensions.
+#[tactic(auto, using(crate::proofs::Flattened::arrays_in, crate::proofs::Flattened::extent_room, crate::proofs::Flattened::extent_at, crate::proofs::Flattened::extent_few, crate::proofs::Flattened::extent_not))]
 pub fn extent_of(tables: &FlatTables, array: usize, dimension: usize) -> usize
     ensures { (result ≡ get_or (array_at (tables_in tables.now).arrays array).extents dimension 0) × (result < 65536) }
 {
@@ -110,6 +116,7 @@ pub fn extent_of(tables: &FlatTables, array: usize, dimension: usize) -> usize
 }
 
 // The number of cells before an array; 0 for one beyond the last.
+#[tactic(auto, using(crate::proofs::Flattened::base_at, crate::proofs::Flattened::base_none))]
 pub fn base_of(tables: &FlatTables, array: usize) -> usize
     ensures { result ≡ get_or (viewed tables.now).bases array 0 }
 {
