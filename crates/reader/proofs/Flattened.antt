@@ -13,7 +13,6 @@ use Rattle.std.proofs.lemmas.List.{take_all}
 use Rattle.std.proofs.lemmas.List.Elements.{same_from_all_zip}
 use Rattle.reader.specs.Entries.{Puts, cut, array_of, arrays_of, unpacked, capped, viewed, tables_in, flattened}
 use Rattle.reader.specs.declared.tables.Tables.{Tables as Packed}
-use Rattle.reader.proofs.Numbers.{by_order}
 use Rattle.reader.proofs.Packing.{length_cut, get_d_cut, operators_are, arrays_are, operator_in_lem, operator_out, role_in, role_out, dimensions_in, dimensions_out, dimensions-few, extent_in, extent_none}
 use Rattle.reader.proofs.Stores.{cut_mid}
 

@@ -8,8 +8,8 @@ use Rattle.std.specs.Prelude.{Result, Ok, Err}
 use Rattle.model.specs.Tables.{Tables, arity_at}
 use Rattle.model.specs.Questions.{number_of}
 use Rattle.model.specs.declared.question.Refusal.{Refusal}
-use Rattle.reader.specs.Field.{Outcome, got, no, Reader, byte, times}
-use Rattle.reader.specs.Syntax.{Expr, Exprs, count, counts}
+use Rattle.reader.specs.Field.{got, no, Reader, byte, times}
+use Rattle.reader.specs.Syntax.{Expr, count, counts}
 use Rattle.reader.specs.Syntax.Exprs.{none, more}
 use Rattle.reader.specs.Grammar.{index, node, applied, apply_of}
 use Rattle.reader.specs.Answers.{through, read_says}

@@ -1,5 +1,5 @@
 -- Steps of the proofs about items.
-use mathlib.Core.Path.{◌≡◌, refl, sym, ◌∙◌}
+use mathlib.Core.Path.{◌≡◌, refl, sym}
 use Prim.Native.Nat.{ℕ, zero, suc, ◌+◌, ◌-◌, ◌≤◌, ◌<◌}
 use mathlib.Core.List.{List}
 use native.Mathlib.Omega.{arith}
@@ -10,7 +10,7 @@ use Rattle.std.specs.Prelude.{Result, Ok, Err}
 use Rattle.model.specs.Tables.{Tables}
 use Rattle.model.specs.Questions.{number_of}
 use Rattle.model.specs.declared.question.Refusal.{Refusal}
-use Rattle.reader.specs.Field.{Outcome, got, no, Reader, byte}
+use Rattle.reader.specs.Field.{got, no, Reader, byte}
 use Rattle.reader.specs.Syntax.{Item, Items}
 use Rattle.reader.specs.Grammar.{loop_of, guard_of, items, nested, body}
 use Rattle.reader.specs.Answers.{ended, place_says}

@@ -4,7 +4,7 @@ use Rattle.std.specs.List.{AllZip}
 use Rattle.std.proofs.lemmas.List.Edits.{sets}
 use Rattle.std.specs.Int.{w8}
 use Rattle.std.proofs.Common.{to_z}
-use Rattle.reader.specs.Field.{Outcome, got, no, Reader, ◌>>=◌, give, refuse, times}
+use Rattle.reader.specs.Field.{Outcome, no, Reader, ◌>>=◌, give, refuse, times}
 use Rattle.model.specs.Tables.{Array, Tables, cells, arity_at}
 use Rattle.reader.specs.Syntax.{Form, Expr, Items}
 use Rattle.reader.specs.Grammar.{tables, form, index, read_of, literal_of, constant_of, expression, body, sized}

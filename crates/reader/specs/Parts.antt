@@ -1,10 +1,10 @@
 -- Parts of the head of a file, as private functions of the code answer them.
-use Rattle.std.specs.Prelude.{◌≡◌, ℕ, ◌+◌, ◌*◌, ◌≤◌, List, [], ◌∷◌, Bool, false, ◌&&◌, ◌||◌, not, length, get_or, set, leb, eqb}
+use Rattle.std.specs.Prelude.{ℕ, ◌+◌, ◌*◌, ◌≤◌, List, [], ◌∷◌, Bool, false, ◌&&◌, ◌||◌, not, length, get_or, set, leb, eqb}
 use Rattle.model.specs.Test.{within}
-use Rattle.model.specs.Tables.{Array, Tables, cells}
-use Rattle.reader.specs.Field.{Outcome, got, no, Reader, and_then, ◌>>=◌, give, here, ask, byte}
+use Rattle.model.specs.Tables.{Array, cells}
+use Rattle.reader.specs.Field.{Reader, ◌>>=◌, give, here, ask, byte}
 use Rattle.reader.specs.Grammar.{arrays}
-use Rattle.reader.specs.Entries.{padded, packed}
+use Rattle.reader.specs.Entries.{padded}
 use Rattle.reader.specs.declared.tables.Tables.{Tables as Packed}
 use Rattle.reader.specs.declared.header.Extents.{Extents}
 use Rattle.reader.specs.declared.header.Array.{Array as Filled}

@@ -1,9 +1,8 @@
-use mathlib.Core.Path.{ap, refl, ◌∙◌}
+use mathlib.Core.Path.{refl, ◌∙◌}
 use native.Mathlib.Omega.{arith}
-use Rattle.reader.specs.Answers.{read_says}
 use Rattle.reader.specs.Parts.{array_in}
-use Rattle.reader.proofs.Steps.{handed, made-got}
-use Rattle.reader.proofs.Heads.{arrays_none, arrays_stop, arrays_more}
+use Rattle.reader.proofs.Steps.{made-got}
+use Rattle.reader.proofs.Heads.{arrays_more}
 use Rattle.reader.proofs.header.arrays_at.Goals as goal
 
 pub loop-k-preserved : goal.loop-k-preserved

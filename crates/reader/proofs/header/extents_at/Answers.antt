@@ -1,11 +1,9 @@
-use mathlib.Core.Path.{ap, ◌∙◌}
+use mathlib.Core.Path.{◌∙◌}
 use Prim.Native.Nat.{◌+◌}
 use native.Mathlib.Omega.{arith}
 use native.Mathlib.Numerals.{add-one}
-use native.Mathlib.Nat.{mul_assoc, mul-one, one-mul}
-use Rattle.reader.specs.Answers.{read_says}
-use Rattle.reader.proofs.Steps.{handed}
-use Rattle.reader.proofs.Heads.{padded_sets, row_start, row_none, row_stop, row_more, size_more, size_below}
+use native.Mathlib.Nat.{mul_assoc, one-mul}
+use Rattle.reader.proofs.Heads.{padded_sets, row_start, row_more, size_more, size_below}
 use Rattle.reader.proofs.header.extents_at.Goals as goal
 
 pub loop-k-init : goal.loop-k-init

@@ -1,9 +1,7 @@
-use mathlib.Core.Path.{ap, refl, ◌∙◌}
+use mathlib.Core.Path.{◌∙◌}
 use native.Mathlib.Omega.{arith}
 use native.Mathlib.Numerals.{add-one}
-use Rattle.reader.specs.Answers.{read_says}
-use Rattle.reader.proofs.Steps.{handed}
-use Rattle.reader.proofs.Heads.{padded_sets, row_start, row_none, row_stop, row_more}
+use Rattle.reader.proofs.Heads.{padded_sets, row_start, row_more}
 use Rattle.reader.proofs.header.operators_at.Goals as goal
 
 pub loop-k-init : goal.loop-k-init
