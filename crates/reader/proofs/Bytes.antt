@@ -62,10 +62,6 @@ module _ (s : List ℕ) (at : ℕ) where
   unfolding u32
   u32_is h = ap (λ (x : ℕ). got x (at + 4)) (little_4 s at) ∙ field_is 4 s at h
 
-  pub u32-not : leb (at + 4) (length s) ≡ false → no 3 at ≡ u32 s at
-  unfolding u32
-  u32-not h = field-not 4 s at h
-
   pub i16_is : leb (at + 2) (length s) ≡ true → got (to_z w16 (get_or s at 0 + 256 * get_or s (at + 1) 0)) (at + 2) ≡ i16 s at
   unfolding i16 through
   i16_is h = ap (through (to_z w16)) (u16_is h)
@@ -73,10 +69,6 @@ module _ (s : List ℕ) (at : ℕ) where
   pub i16-not : leb (at + 2) (length s) ≡ false → no 3 at ≡ i16 s at
   unfolding i16 through
   i16-not h = ap (through (to_z w16)) (u16-not h)
-
-  pub step-short : leb (at + 2) (length s) ≡ false → no 3 at ≡ step s at
-  unfolding step
-  step-short h = rw (sym (i16-not h))
 
   pub step_no : {k p : ℕ} → i16 s at ≡ no k p → no k p ≡ step s at
   unfolding step

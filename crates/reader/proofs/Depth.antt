@@ -16,25 +16,13 @@ module _ (s : List ℕ) (at : ℕ) where
   unfolding forms_step
   forms_shallow loops n h = rw (le-leb loops 8 h)
 
-  pub forms_deep : (loops n : ℕ) → 8 < loops → forms_step loops n s at ≡ no 12 at
-  unfolding forms_step
-  forms_deep loops n h = rw (lt-leb loops 8 h)
-
   pub expression-shallow : (t : Tables) (loops : ℕ) → loops ≤ 8 → expression_step t loops s at ≡ expression t loops s at
   unfolding expression_step
   expression-shallow t loops h = rw (le-leb loops 8 h)
 
-  pub expression_deep : (t : Tables) (loops : ℕ) → 8 < loops → expression_step t loops s at ≡ no 12 at
-  unfolding expression_step
-  expression_deep t loops h = rw (lt-leb loops 8 h)
-
   pub items-shallow : (t : Tables) (left loops : ℕ) → loops + left ≤ 8 → items_step t left loops s at ≡ body t (length s) left loops s at
   unfolding items_step
   items-shallow t left loops h = rw (le-leb (loops + left) 8 h)
-
-  pub items_deep : (t : Tables) (left loops : ℕ) → 8 < loops + left → items_step t left loops s at ≡ no 12 at
-  unfolding items_step
-  items_deep t left loops h = rw (lt-leb (loops + left) 8 h)
 
 module _ (s : List ℕ) where
   pub tables-short : length s ≤ 16384 → tables_step s ≡ tables s 0

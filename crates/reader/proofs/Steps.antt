@@ -92,13 +92,6 @@ module _ {A B : Type 0} (f : A → B) (m : Outcome A) {r : Result (B × ℕ) Ref
   pub made_no : {g : Refusal} → r ≡ Err g → m ≡ no (number_of g.question) g.place
   made_no q = through_no f m (read_no e q)
 
--- a part whose value counts n, whatever it is
-pub one_made : {A B : Type 0} {n : ℕ} (m : Outcome A) (f : A → B) (g : B → ℕ) (r : Result ℕ Refusal) → place_says r ≡ ended m → ((a : A) → n ≡ g (f a)) →
-    through (λ _. n) (place_says r) ≡ through g (and_then m (λ a next. got (f a) next))
-unfolding through
-one_made {n = n} (got a next) f g r e h = ap (through (λ _. n)) e ∙ ap (λ (x : ℕ). got x next) (h a)
-one_made {n = n} (no k p) f g r e h = ap (through (λ _. n)) e
-
 -- things in a row, as a loop takes them: those that are left have the answer of all
 module _ {A B : Type 0} (none : B) (more : A → B → B) (one : Reader A) (s : List ℕ) where
   pub times_end : (n at : ℕ) → n ≤ 0 → got 0 at ≡ ended (times none more one n s at)
@@ -134,11 +127,3 @@ through-through f g (no k l) = refl
 -- one that was made of the last value
 pub remade : {A B C : Type 0} (f : A → B) (g : B → C) (h : A → C) (m : Outcome A) → ((a : A) → h a ≡ g (f a)) → through h m ≡ through g (and_then m (λ a next. got (f a) next))
 remade f g h m e = through_same h (λ a. g (f a)) m e ∙ through-through f g m
-
--- the number of one of n: what was asked of n, said of its equal
-module _ (n m : ℕ) (s : List ℕ) (at : ℕ) {r : Result (ℕ × ℕ) Refusal} (w : n ≡ m) (e : read_says r ≡ index n s at) where
-  pub index-got : {x next : ℕ} → r ≡ Ok (x, next) → index m s at ≡ got x next
-  index-got q = ap (λ (k : ℕ). index k s at) (sym w) ∙ read-got e q
-
-  pub index_no : {f : Refusal} → r ≡ Err f → index m s at ≡ no (number_of f.question) f.place
-  index_no q = ap (λ (k : ℕ). index k s at) (sym w) ∙ read_no e q
