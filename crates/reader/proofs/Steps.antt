@@ -2,13 +2,12 @@
 use mathlib.Core.Path.{◌≡◌, refl, sym, ap, ◌∙◌}
 use Prim.Native.Nat.{ℕ, zero, suc, ◌+◌, ◌<◌, ◌≤◌}
 use mathlib.Core.List.{List}
-use mathlib.Core.Bool.{Bool, true, false, false≢true}
+use mathlib.Core.Bool.{false≢true}
 use native.Mathlib.Omega.{arith}
 use Rattle.std.specs.Prelude.{Result, Ok, Err, IsErr, IsErrAnd}
 use Rattle.model.specs.Questions.{number_of}
 use Rattle.model.specs.declared.question.Refusal.{Refusal}
-use Rattle.reader.specs.Field.{Outcome, got, no, Reader, and_then, ask, times}
-use Rattle.reader.specs.Grammar.{index}
+use Rattle.reader.specs.Field.{Outcome, got, no, Reader, and_then, times}
 use Rattle.reader.specs.Answers.{through, ended, read_says, place_says}
 
 -- a refusal that `?` hands on
@@ -58,17 +57,6 @@ module _ {A B R : Type 0} (o : Outcome B → R) (m : Outcome A) (f : A → ℕ �
 
   pub stop : {k p : ℕ} → m ≡ no k p → q ≡ o (no k p) → q ≡ o (and_then m f)
   stop e h = rw e h
-
-module _ {B R : Type 0} (o : Outcome B → R) (k p : ℕ) (t : Bool) (s : List ℕ) (at : ℕ) (f : ℕ → ℕ → Outcome B) {q : R} where
-  pub asked : t ≡ true → q ≡ o (f 0 at) → q ≡ o (and_then (ask k p t s at) f)
-  asked e h = rw e h
-
-  pub denied : t ≡ false → q ≡ o (no k p) → q ≡ o (and_then (ask k p t s at) f)
-  denied e h = rw e h
-
--- the outcome itself
-abbrev pub whole : {A : Type 0} → Outcome A → Outcome A
-whole m = m
 
 -- what is made of the last value that was got is forgotten with it
 pub kept : {A B : Type 0} (m : Outcome A) (f : A → B) → ended m ≡ ended (and_then m (λ a next. got (f a) next))

@@ -100,7 +100,7 @@ fn node(s: &[u8], at: usize, tables: &FlatTables, loops: usize, left: usize) -> 
     Ok((nodes + 1, end))
 }
 
-// The n arguments that remain: the nodes of all, and their end. A loop reads them, so calls nest as deep as operators do.
+// The arguments that remain: the nodes of all, and their end. A loop reads them, so calls nest as deep as operators do.
 #[cycle(args_node)]
 fn args(
     s: &[u8],
@@ -108,13 +108,13 @@ fn args(
     tables: &FlatTables,
     loops: usize,
     left: usize,
-    n: usize,
+    more: usize,
 ) -> Read<usize>
-    ensures { read_says result ≡ through counts (times no_args more_args (node_of (tables_in tables.now) loops (applied (tables_in tables.now) loops left)) n s.now at) }
+    ensures { read_says result ≡ through counts (times no_args more_args (node_of (tables_in tables.now) loops (applied (tables_in tables.now) loops left)) more s.now at) }
 {
     let mut place = at;
     let mut nodes: usize = 0;
-    for _ in 0..n {
+    for _ in 0..more {
         let (own, next) = node(s, place, tables, loops, left)?;
         nodes += own;
         place = next;
@@ -136,7 +136,8 @@ pub fn expression_end(s: &[u8], at: usize, tables: &FlatTables, loops: usize) ->
     ensures { read_says result ≡ through count (expression_step (tables_in tables.now) loops s.now at) }
 {
     if loops > 8 {
-        return Err(Question::Depth.at(at));
+        Err(Question::Depth.at(at))
+    } else {
+        expression_past(s, at, tables, loops)
     }
-    expression_past(s, at, tables, loops)
 }

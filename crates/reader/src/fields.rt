@@ -21,14 +21,14 @@ pub enum Width {
     Four,
 }
 
-// Two's complement of a byte.
+// Two's complement of a byte. Not `cast_signed`: the wrong programs i8_127 and i8_complement change its parts.
 pub fn i8_of(b: u8) -> i8
     ensures { result ≡ to_z w8 b }
 {
     if b < 128 { b as i8 } else { !((255 - b) as i8) }
 }
 
-// Two's complement of two bytes.
+// Two's complement of two bytes. Not `cast_signed`: the wrong programs i16_32767 and i16_complement change its parts.
 pub fn i16_of(w: u16) -> i16
     ensures { result ≡ to_z w16 w }
 {
@@ -53,7 +53,7 @@ pub(crate) fn left_at(s: &[u8], at: usize) -> usize
     s.len().saturating_sub(at)
 }
 
-// Two bytes as a number, the lower first.
+// Two bytes as a number, the lower first. Not `from_le_bytes`: the wrong program pair_255 changes the factor.
 pub fn pair(a: u8, b: u8) -> u16
     ensures { result ≡ a + 256 * b }
 {

@@ -6,7 +6,8 @@ ghost use Rattle.reader.specs.Entries.{Puts, viewed, tables_in, flattened};
 
 use model::operator::arity;
 
-// Numbers of tables that are lent as one array (`viewed` says which stand where), and where the bases begin.
+// Numbers of tables that are lent as one array (`viewed` says which stand where), and where the bases begin. No struct, for stored
+// tests of the functions below give them any 115 numbers.
 pub const FLAT: usize = 115;
 
 pub const BASES: usize = 98;

@@ -18,4 +18,4 @@ abbrev pub decreases-node : goal.decreases-node
 decreases-node l = 2 * (length l.s.now - l.at + l.left)
 
 abbrev pub invariant-args-loop : goal.invariant-args-loop
-invariant-args-loop l = (l.at + l.nodes ≤ l.place) × (through (λ es. l.nodes + counts es) (times no_args more_args (node_of (tables_in l.tables) l.loops (applied (tables_in l.tables) l.loops l.left)) (l.n - l.counter) l.s l.place) ≡ through counts (times no_args more_args (node_of (tables_in l.tables) l.loops (applied (tables_in l.tables) l.loops l.left)) l.n l.s l.at))
+invariant-args-loop l = (l.at + l.nodes ≤ l.place) × (through (λ es. l.nodes + counts es) (times no_args more_args (node_of (tables_in l.tables) l.loops (applied (tables_in l.tables) l.loops l.left)) (l.more - l.counter) l.s l.place) ≡ through counts (times no_args more_args (node_of (tables_in l.tables) l.loops (applied (tables_in l.tables) l.loops l.left)) l.more l.s l.at))
