@@ -239,9 +239,9 @@ module _ (l : List ℕ) where
   arrays_in = arrays_are (viewed l)
 
   module _ (o : ℕ) where
-    pub operator_at : o < length (tables_in l).operators → get_or l (1 + o) 0 ≡ get_or (tables_in l).operators o 0
+    pub operator_at : (i : ℕ) → i ≡ 1 + o → o < length (tables_in l).operators → get_or l i 0 ≡ get_or (tables_in l).operators o 0
     unfolding tables_in viewed
-    operator_at h = let e = operators_are (viewed l) in sym (get_d_cut 16 1 l o (omega arith)) ∙ operator_in_lem (viewed l) o (omega arith)
+    operator_at i w h = let e = operators_are (viewed l) in ap (λ (j : ℕ). get_or l j 0) w ∙ sym (get_d_cut 16 1 l o (omega arith)) ∙ operator_in_lem (viewed l) o (omega arith)
 
     operator_none : length (tables_in l).operators ≤ o → get_or (tables_in l).operators o 0 ≡ 0
     unfolding tables_in
@@ -252,17 +252,17 @@ module _ (l : List ℕ) where
     arity_none h = rw (operator_none h)
 
   module _ (a : ℕ) where
-    pub role_at_lem : a < length (tables_in l).arrays → get_or l (18 + a) 0 ≡ (array_at (tables_in l).arrays a).role
+    pub role_at_lem : (i : ℕ) → i ≡ 18 + a → a < length (tables_in l).arrays → get_or l i 0 ≡ (array_at (tables_in l).arrays a).role
     unfolding tables_in viewed
-    role_at_lem h = let e = arrays_are (viewed l) in sym (get_d_cut 16 18 l a (omega arith)) ∙ role_in (viewed l) a (omega arith)
+    role_at_lem i w h = let e = arrays_are (viewed l) in ap (λ (j : ℕ). get_or l j 0) w ∙ sym (get_d_cut 16 18 l a (omega arith)) ∙ role_in (viewed l) a (omega arith)
 
     pub role_none : length (tables_in l).arrays ≤ a → 3 ≡ (array_at (tables_in l).arrays a).role
     unfolding tables_in
     role_none h = let e = arrays_are (viewed l) in role_out (viewed l) a (omega arith)
 
-    pub dimensions_at_lem : a < length (tables_in l).arrays → min (get_or l (34 + a) 0) 3 ≡ length (array_at (tables_in l).arrays a).extents
+    pub dimensions_at_lem : (i : ℕ) → i ≡ 34 + a → a < length (tables_in l).arrays → min (get_or l i 0) 3 ≡ length (array_at (tables_in l).arrays a).extents
     unfolding tables_in viewed
-    dimensions_at_lem h = let e = arrays_are (viewed l) in ap (λ (n : ℕ). min n 3) (sym (get_d_cut 16 34 l a (omega arith))) ∙ dimensions_in (viewed l) a (omega arith)
+    dimensions_at_lem i w h = let e = arrays_are (viewed l) in ap (λ (j : ℕ). min (get_or l j 0) 3) w ∙ ap (λ (n : ℕ). min n 3) (sym (get_d_cut 16 34 l a (omega arith))) ∙ dimensions_in (viewed l) a (omega arith)
 
     pub dimensions_none : length (tables_in l).arrays ≤ a → 1 ≡ length (array_at (tables_in l).arrays a).extents
     unfolding tables_in
@@ -272,9 +272,9 @@ module _ (l : List ℕ) where
     unfolding tables_in
     dimensions-three = dimensions-few (viewed l) a
 
-    pub base_at : a < 17 → get_or l (98 + a) 0 ≡ get_or (viewed l).bases a 0
+    pub base_at : (i : ℕ) → i ≡ 98 + a → a < 17 → get_or l i 0 ≡ get_or (viewed l).bases a 0
     unfolding viewed
-    base_at h = sym (get_d_cut 17 98 l a h)
+    base_at i w h = ap (λ (j : ℕ). get_or l j 0) w ∙ sym (get_d_cut 17 98 l a h)
 
     pub base_none : 17 ≤ a → 0 ≡ get_or (viewed l).bases a 0
     unfolding viewed
@@ -285,12 +285,12 @@ module _ (l : List ℕ) where
       unfolding tables_in
       extent_room h g = let m = arrays_are (viewed l) in let n = dimensions-few (viewed l) a in omega arith
 
-      pub extent_at : a < length (tables_in l).arrays → k < length (array_at (tables_in l).arrays a).extents →
-          min (get_or l (50 + 3 * a + k) 0) 65535 ≡ get_or (array_at (tables_in l).arrays a).extents k 0
+      pub extent_at : (i : ℕ) → i ≡ 50 + 3 * a + k → a < length (tables_in l).arrays → k < length (array_at (tables_in l).arrays a).extents →
+          min (get_or l i 0) 65535 ≡ get_or (array_at (tables_in l).arrays a).extents k 0
       unfolding tables_in viewed capped
-      extent_at h g =
+      extent_at i w h g =
           let m = extent_room h g in
-          let e : 50 + 3 * a + k ≡ 50 + (3 * a + k) = omega arith in
+          let e : i ≡ 50 + (3 * a + k) = omega arith in
           ap (λ (j : ℕ). min (get_or l j 0) 65535) e
           ∙ ap (λ (n : ℕ). min n 65535) (sym (get_d_cut 48 50 l (3 * a + k) m))
           ∙ sym (get_or-map (λ (e : ℕ). min e 65535) (cut 48 50 l) (3 * a + k) 0)

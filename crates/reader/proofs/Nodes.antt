@@ -31,19 +31,19 @@ arity_held t s (suc left) p at {next = next} e q = read_by (index (length t.oper
     let w : x ≡ next = cc in (omega arith, omega (arith, h.1), omega (arith, h.2))
 
 -- an operator by its arity, and what its arguments answer
-pub operator_is : (t : Tables) (loops left p at : ℕ) (s : List ℕ) {q r : Result (ℕ × ℕ) Refusal} {n first k past : ℕ} →
+pub operator_is : (t : Tables) (loops left p at : ℕ) (s : List ℕ) {q r : Result (ℕ × ℕ) Refusal} {n first k past c : ℕ} →
     read_says q ≡ arity_step t left p s at → q ≡ Ok (n, first) →
-    read_says r ≡ through counts (times none more (node t loops (applied t loops (left - 1))) n s first) → r ≡ Ok (k, past) →
-    got (k + 1) past ≡ through count (applied t loops left p s at)
+    read_says r ≡ through counts (times none more (node t loops (applied t loops (left - 1))) n s first) → r ≡ Ok (k, past) → c ≡ k + 1 →
+    got c past ≡ through count (applied t loops left p s at)
 unfolding arity_step applied apply_of count
-operator_is t loops zero p at s e q h v = not-got (read-got e q)
-operator_is t loops (suc left) p at s {n = n} {first} {k} {past} e q h v =
+operator_is t loops zero p at s e q h v z = not-got (read-got e q)
+operator_is t loops (suc left) p at s {n = n} {first} {k} {past} {c} e q h v z =
     read_by (index (length t.operators) s at) _ (read-got e q) λ o x e1 w.
     let a : n ≡ arity_at t.operators o = cc in
     let b : x ≡ first = cc in
     let l : suc left - 1 ≡ left = omega arith in
     let g = made-got counts (times none more (node t loops (applied t loops left)) n s first) (rw l at h) v in
-    let d : k + 1 ≡ suc (counts g.0) = omega (arith, g.2) in
+    let d : c ≡ suc (counts g.0) = omega (arith, g.2, z) in
     rw (e1, b, sym a) (step (through count) (times none more (node t loops (applied t loops left)) n s first) _ g.1 (ap (λ (c : ℕ). got c past) d ∙ made count refl))
 
 -- arguments in a row, as a loop takes them, c nodes being counted

@@ -34,4 +34,4 @@ node-overflow_add-result t c =
 pub node-returns : goal.node-returns
 unfolding node_of
 node-returns t c =
-    rw (read-got c.byte_at.ensures c.in_ok-code.was, c.if-code-ne17.false) (operator_is _ _ _ _ _ _ c.operator_at.ensures c.in_ok-n.was c.args-2.ensures c.in_ok-nodes.was)
+    rw (read-got c.byte_at.ensures c.in_ok-code.was, c.if-code-ne17.false) (operator_is _ _ _ _ _ _ c.operator_at.ensures c.in_ok-n.was c.args-2.ensures c.in_ok-nodes.was (omega arith))
