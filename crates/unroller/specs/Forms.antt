@@ -1,14 +1,14 @@
 -- Forms worked out over arrays of eight numbers, as the code does.
-use Rattle.std.specs.Prelude.{ℕ, zero, suc, ◌-◌, ◌%◌, ◌^◌, ◌≤◌, ◌<◌, ◌≡◌, List, length, get_or, take, ℤ, pos, negsuc, ◌+ℤ◌, ◌*ℤ◌, nat_abs}
+use Rattle.std.specs.Prelude.{ℕ, zero, suc, ◌-◌, ◌%◌, ◌^◌, ◌≤◌, ◌<◌, ◌≡◌, List, length, get_or, take, ℤ, pos, negsuc, Result, Ok, Err, ◌+ℤ◌, ◌*ℤ◌, nat_abs}
 use Rattle.std.specs.Int.{Width, w32}
 use mir.Val.{bits, to_z}
 use Rattle.reader.specs.Field.{Outcome, got, no}
 use Rattle.reader.specs.Syntax.{Form}
 use Rattle.reader.specs.Grammar.{form}
+use Rattle.reader.specs.Answers.{read_says}
+use Rattle.model.specs.declared.question.Refusal.{Refusal}
 use Rattle.reader.specs.Entries.{bytes_of}
 use Rattle.unroller.specs.Run.{value_at}
-use Rattle.unroller.specs.declared.forms.Valued.{Valued}
-use Rattle.unroller.specs.declared.forms.Valued.TheVariants.{Is, No}
 
 -- z and the first n products
 unfoldable pub form_sum : ℤ → List ℤ → List ℤ → ℕ → ℤ
@@ -29,17 +29,12 @@ wrapped_sum z cs is (suc n) = wrapped w32 (wrapped_sum z cs is n +ℤ wrapped w3
 unfoldable pub Packs : List ℤ → ℕ → Type 0
 Packs cs w = (k : ℕ) → k < 8 → get_or (bytes_of 8 w) k (pos 0) ≡ get_or cs k (pos 0)
 
--- what each case stands for: a value and the place past its form, or a question's number. Its place is the item's, which is p.
-abbrev pub valued_says : ℕ → Valued → Outcome ℤ
-valued_says p (Is v next) = got v next
-valued_says p (No number) = no number p
-
 -- What working out the form that stands at a place answers: its value, and the place past it.
-unfoldable pub Values : List ℕ → ℕ → ℕ → List ℤ → Valued → Type 0
+unfoldable pub Values : List ℕ → ℕ → ℕ → List ℤ → Result (ℤ × ℕ) Refusal → Type 0
 Values s at loops is r =
-    (f : Form) (next p : ℕ) → form loops s at ≡ got f next → loops ≤ 8 → length is ≡ 8 → valued_says p r ≡ got (value_at f (take loops is)) next
+    (f : Form) (next : ℕ) → form loops s at ≡ got f next → loops ≤ 8 → length is ≡ 8 → read_says r ≡ got (value_at f (take loops is)) next
 
 -- no value is larger, whatever the bytes are
-abbrev pub Small : Valued → Type 0
-Small (Is v to) = nat_abs v ≤ 33587200
-Small (No k) = Unit {0}
+abbrev pub Small : Result (ℤ × ℕ) Refusal → Type 0
+Small (Ok r) = nat_abs r.0 ≤ 33587200
+Small (Err e) = Unit {0}

@@ -10,6 +10,7 @@ pub mod Asking
 pub mod State
 pub mod CheckAnswers
 pub mod Stands
+pub mod Scopes
 pub mod Walk
 pub mod WalkItems
 pub mod UnrollAnswers

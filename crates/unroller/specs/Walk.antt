@@ -1,8 +1,10 @@
 -- How the walk over an accepted file's bytes stands beside the run of its items. The contracts of the unroller's private functions cite these.
-use Rattle.std.specs.Prelude.{ℕ, ◌+◌, ◌≤◌, ◌<◌, ◌≡◌, List, true, length, get_or, take, eqb, ℤ}
+use Rattle.std.specs.Prelude.{ℕ, ◌+◌, ◌≤◌, ◌<◌, ◌≡◌, List, true, length, get_or, take, eqb, ℤ, Result, Ok, Err}
 use Rattle.model.specs.Tables.{Tables, inside}
 use Rattle.model.specs.Update.{nodes, written}
 use Rattle.model.specs.Memory.{list_words}
+use Rattle.model.specs.Questions.{number_of}
+use Rattle.model.specs.declared.question.Refusal.{Refusal}
 use Rattle.reader.specs.Field.{got}
 use Rattle.reader.specs.Syntax.{Item, Items}
 use Rattle.reader.specs.Grammar.{statement_of, item_of, nested, items}
@@ -10,21 +12,11 @@ use Rattle.unroller.specs.Run.{Ran, ok, stop, Done, run, runs}
 use Rattle.unroller.specs.Allowed.{allowed_tables}
 use Rattle.unroller.specs.Layout.{layout}
 use Rattle.unroller.specs.Stands.{bases_of}
-use Rattle.unroller.specs.declared.walk.Walk.{Walk}
-use Rattle.unroller.specs.declared.walk.Walk.TheVariants.{On, No}
+use Rattle.unroller.specs.declared.walk.Progress.{Progress}
 
--- the counts that a walk keeps
-pub record Progress : Type 0 where
-  pub rounds : ℕ
-  pub nodes : ℕ
-  pub updates : ℕ
-
-abbrev pub progress : ℕ → ℕ → ℕ → Progress
-progress r n u = record { rounds = r; nodes = n; updates = u }
-
--- the answer at a place with these counts
-abbrev pub on : ℕ → Progress → Walk
-on at p = On at p.rounds p.nodes p.updates
+-- the place past what was run with the counts there, or a refusal
+abbrev pub Walk : Type 0
+Walk = Result (ℕ × Progress) Refusal
 
 -- what the run has done so far, as the code keeps it: counts, the list laid out in its slice, and a flag for each cell written
 pub record Holds (t : Tables) (d : Done) (p : Progress) (list flags : List ℕ) : Type 0 where
@@ -43,10 +35,10 @@ pub record Holds (t : Tables) (d : Done) (p : Progress) (list flags : List ℕ) 
 
 -- what a walk answers that stands for this run, and ends before `next`
 abbrev pub Walked : Tables → ℕ → Ran Done → Walk → List ℕ → List ℕ → Type 0
-Walked t next (ok d) (On at r n u) list flags = (at ≡ next) × Holds t d (progress r n u) list flags
-Walked t next (ok d) (No question place) list flags = ⊥
-Walked t next (stop k q) (On at r n u) list flags = ⊥
-Walked t next (stop k q) (No question place) list flags = (question ≡ k) × (place ≡ q)
+Walked t next (ok d) (Ok r) list flags = (r.0 ≡ next) × Holds t d r.1 list flags
+Walked t next (ok d) (Err e) list flags = ⊥
+Walked t next (stop k q) (Ok r) list flags = ⊥
+Walked t next (stop k q) (Err e) list flags = (number_of e.question ≡ k) × (e.place ≡ q)
 
 -- the bases kept beside the tables are theirs
 abbrev pub Based : Tables → List ℕ → Type 0

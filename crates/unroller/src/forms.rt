@@ -6,7 +6,8 @@ ghost use Rattle.std.proofs.Common.{of_z};
 ghost use Rattle.unroller.specs.Run.{goes_on};
 ghost use Rattle.unroller.specs.Forms.{form_sum, Packs, Values, Small};
 
-use reader::fields::{Place, i8_of};
+use crate::walk::Scope;
+use reader::fields::{Read, i8_of};
 use reader::forms::form_at;
 
 fn product(coefficient: i8, index: i16) -> i32
@@ -68,26 +69,15 @@ pub(crate) fn form_value(constant: i16, coefficients: [i8; 8], indices: [i16; 8]
     sum
 }
 
-// The value of a form and the place past it, or the number of a question.
-#[derive(Clone, Copy)]
-pub(crate) enum Valued {
-    Is(i32, usize),
-    No(u8),
-}
-
-// Works out the form at `at` inside `loops` loops.
-pub(crate) fn value_at(program: &[u8], at: usize, loops: usize, indices: [i16; 8]) -> Valued
-    ensures value { Values program.now at loops indices result }
-    ensures bound { Small result }
-{
-    let form = form_at(program, at, loops);
-    let answer = form.answer;
-    match answer {
-        Place::Not(number, _) => Valued::No(number),
-        Place::Next(next) => {
-            let coefficients = form.coefficients;
-            Valued::Is(form_value(form.constant, coefficients, indices), next)
-        }
+impl<'a> Scope<'a> {
+    // The value of the form at `at`, and the place past it.
+    pub(crate) fn value_at(&self, at: usize) -> Read<i32>
+        ensures value { Values self.now.program.now at self.now.loops self.now.indices result }
+        ensures bound { Small result }
+    {
+        let (form, next) = form_at(self.program, at, self.loops)?;
+        let value = form_value(form.constant, form.coefficients, self.indices);
+        Ok((value, next))
     }
 }
 
