@@ -1,6 +1,7 @@
 -- Where an element of one program was written last: the reply, and what the code's answer says.
-use Rattle.std.specs.Prelude.{ℕ, ◌≡◌, List, [], length, leb, ℤ, pos, if◌then◌else◌}
+use Rattle.std.specs.Prelude.{ℕ, ◌≡◌, List, [], length, leb, ℤ, pos, if◌then◌else◌, Result, Ok, Err, Option as Maybe, Some, None}
 use Rattle.std.proofs.Math.Option.{Option, none, some}
+use Rattle.model.specs.Questions.{number_of}
 use Rattle.model.specs.Update.{Listed}
 use Rattle.model.specs.Reply.{Side, left, both}
 use Rattle.model.specs.Memory.{list_words}
@@ -8,9 +9,9 @@ use Rattle.reader.specs.Entries.{padded}
 use Rattle.unroller.specs.Run.{Ran, ok, stop}
 use Rattle.unroller.specs.Unroll.{unrolled}
 use Rattle.unroller.specs.Executed.{Origin, origin_of}
-use Rattle.unroller.specs.declared.origins.Origin.{Origin as Answer}
-use Rattle.unroller.specs.declared.origins.Source.{Source}
-use Rattle.unroller.specs.declared.origins.Source.TheVariants as source
+use Rattle.unroller.specs.declared.entry.UnrollError.{UnrollError}
+use Rattle.unroller.specs.declared.entry.UnrollError.TheVariants.{Refused, Short}
+use Rattle.unroller.specs.declared.origins.Writer.{Writer}
 
 -- what is known of an element: an update wrote it; none did; side, question's number and place
 pub data Known : Type 0 where
@@ -44,15 +45,15 @@ unfoldable pub origin_reply : List ℕ → ℕ → ℕ → ℕ → Told
 origin_reply s a e n = if leb list_words n then told_of (unrolled s) (origin_of s a e) else unwritten (refused both 25 0)
 
 -- what each case of the code's answer says
-abbrev pub source_says : Source → Known
-source_says source.Written = written
-source_says source.Starting = starting
-source_says (source.Refused question place) = refused left question place
-source_says source.Short = refused both 25 0
+abbrev pub writer_says : Maybe Writer → Told
+writer_says None = unwritten starting
+writer_says (Some w) = record { known = written; from = w.from; to = w.to; count = w.count; indices = w.indices }
 
-abbrev pub origin_says : Answer → Told
-origin_says r = record { known = source_says r.source; from = r.from; to = r.to; count = r.count; indices = r.indices }
+abbrev pub origin_says : Result (Maybe Writer) UnrollError → Told
+origin_says (Ok w) = writer_says w
+origin_says (Err (Refused e)) = unwritten (refused left (number_of e.question) e.place)
+origin_says (Err Short) = unwritten (refused both 25 0)
 
 -- of an element of a program that unrolls
-unfoldable pub Found : List ℕ → ℕ → ℕ → Answer → Type 0
-Found s a e r = (l : Listed) → unrolled s ≡ ok l → origin_says r ≡ told (origin_of s a e)
+unfoldable pub Found : List ℕ → ℕ → ℕ → Maybe Writer → Type 0
+Found s a e w = (l : Listed) → unrolled s ≡ ok l → writer_says w ≡ told (origin_of s a e)

@@ -1,17 +1,19 @@
 -- How the walk over an accepted file's bytes stands beside the run of its items. The contracts of the unroller's private functions cite these.
-use Rattle.std.specs.Prelude.{ℕ, ◌+◌, ◌≤◌, ◌<◌, ◌≡◌, List, true, length, get_or, take, eqb, ℤ, Result, Ok, Err}
+use Rattle.std.specs.Prelude.{ℕ, ◌+◌, ◌≤◌, ◌<◌, ◌≡◌, List, true, length, get_or, eqb, Result, Ok, Err}
 use Rattle.model.specs.Tables.{Tables, inside}
 use Rattle.model.specs.Update.{nodes, written}
 use Rattle.model.specs.Memory.{list_words}
 use Rattle.model.specs.Questions.{number_of}
 use Rattle.model.specs.declared.question.Refusal.{Refusal}
-use Rattle.reader.specs.Field.{got}
+use Rattle.reader.specs.Field.{Reader, got}
 use Rattle.reader.specs.Syntax.{Item, Items}
 use Rattle.reader.specs.Grammar.{statement_of, item_of, nested, items}
 use Rattle.unroller.specs.Run.{Ran, ok, stop, Done, run, runs}
 use Rattle.unroller.specs.Allowed.{allowed_tables}
 use Rattle.unroller.specs.Layout.{layout}
 use Rattle.unroller.specs.Stands.{bases_of}
+use Rattle.unroller.specs.Scopes.{bytes, tables, bases, around}
+use Rattle.unroller.specs.declared.walk.Scope.{Scope}
 use Rattle.unroller.specs.declared.walk.Progress.{Progress}
 
 -- the place past what was run with the counts there, or a refusal
@@ -44,20 +46,24 @@ Walked t next (stop k q) (Err e) list flags = (number_of e.question ≡ k) × (e
 abbrev pub Based : Tables → List ℕ → Type 0
 Based t bases = (a : ℕ) → a < length t.arrays → get_or bases a 0 ≡ get_or (bases_of t.arrays) a 0
 
--- The statement whose code stands at `at`. s: the bytes; t, bases: the tables; is: the index values of the enclosing loops, in eight places.
-unfoldable pub RunsStatement : List ℕ → ℕ → Tables → List ℕ → ℕ → List ℤ → Progress → List ℕ → List ℕ → Walk → List ℕ → List ℕ → Type 0
-RunsStatement s at t bases loops is p list flags r list' flags' =
-    (i : Item) (next : ℕ) (d : Done) → statement_of t loops at s (at + 1) ≡ got i next → loops ≤ 8 → length is ≡ 8
-    → Based t bases → Holds t d p list flags → Walked t next (run i t (take loops is) d) r list' flags'
+-- The statement whose code stands at `at`.
+unfoldable pub RunsStatement : Scope → ℕ → Progress → List ℕ → List ℕ → Walk → List ℕ → List ℕ → Type 0
+RunsStatement scope at p list flags r list' flags' =
+    (i : Item) (next : ℕ) (d : Done) → statement_of (tables scope) scope.loops at (bytes scope) (at + 1) ≡ got i next → scope.loops ≤ 8 → length scope.indices ≡ 8
+    → Based (tables scope) (bases scope) → Holds (tables scope) d p list flags → Walked (tables scope) next (run i (tables scope) (around scope) d) r list' flags'
+
+-- the reader of an item, where loops and guards may nest `left` deep
+abbrev pub item_in : Scope → ℕ → ℕ → ℕ → Reader Item
+item_in scope left code place = item_of (tables scope) (length (bytes scope)) (nested (tables scope) (length (bytes scope)) left scope.loops) scope.loops code place
 
 -- The item whose code stands at `at`, where loops and guards may nest `left` deep.
-unfoldable pub RunsItem : List ℕ → ℕ → ℕ → Tables → List ℕ → ℕ → ℕ → List ℤ → Progress → List ℕ → List ℕ → Walk → List ℕ → List ℕ → Type 0
-RunsItem s at code t bases left loops is p list flags r list' flags' =
-    (i : Item) (next : ℕ) (d : Done) → item_of t (length s) (nested t (length s) left loops) loops code at s (at + 1) ≡ got i next → loops + left ≤ 8 → length is ≡ 8
-    → Based t bases → Holds t d p list flags → Walked t next (run i t (take loops is) d) r list' flags'
+unfoldable pub RunsItem : Scope → ℕ → ℕ → ℕ → Progress → List ℕ → List ℕ → Walk → List ℕ → List ℕ → Type 0
+RunsItem scope at code left p list flags r list' flags' =
+    (i : Item) (next : ℕ) (d : Done) → item_in scope left code at (bytes scope) (at + 1) ≡ got i next → scope.loops + left ≤ 8 → length scope.indices ≡ 8
+    → Based (tables scope) (bases scope) → Holds (tables scope) d p list flags → Walked (tables scope) next (run i (tables scope) (around scope) d) r list' flags'
 
 -- The items from `at` on.
-unfoldable pub RunsItems : List ℕ → ℕ → Tables → List ℕ → ℕ → ℕ → List ℤ → Progress → List ℕ → List ℕ → Walk → List ℕ → List ℕ → Type 0
-RunsItems s at t bases left loops is p list flags r list' flags' =
-    (js : Items) (next most : ℕ) (d : Done) → items (item_of t (length s) (nested t (length s) left loops) loops) most s at ≡ got js next → loops + left ≤ 8 → length is ≡ 8
-    → Based t bases → Holds t d p list flags → Walked t next (runs js t (take loops is) d) r list' flags'
+unfoldable pub RunsItems : Scope → ℕ → ℕ → Progress → List ℕ → List ℕ → Walk → List ℕ → List ℕ → Type 0
+RunsItems scope at left p list flags r list' flags' =
+    (js : Items) (next most : ℕ) (d : Done) → items (item_in scope left) most (bytes scope) at ≡ got js next → scope.loops + left ≤ 8 → length scope.indices ≡ 8
+    → Based (tables scope) (bases scope) → Holds (tables scope) d p list flags → Walked (tables scope) next (runs js (tables scope) (around scope) d) r list' flags'

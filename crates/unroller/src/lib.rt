@@ -10,6 +10,6 @@ mod origins;
 mod statement;
 mod walk;
 
-pub use entry::{Unrolled, unroll};
+pub use entry::{UnrollError, unroll};
 pub use lists::{Checked, check_list};
-pub use origins::{Origin, Source, origin_of};
+pub use origins::{Writer, origin_of};
