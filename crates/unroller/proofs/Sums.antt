@@ -59,22 +59,21 @@ get_d_bytes (suc n) w (suc k) h =
     let e : 8 + 8 * k ≡ 8 * suc k = omega arith in
     get_d_bytes n (w / 256) k (omega arith) ∙ ap (λ (x : ℕ). to_z w8 (x % 256)) (shr-shr w 8 (8 * k) ∙ ap (λ (x : ℕ). w / 2 ^ x) e)
 
-pub packs_eight : (cs : List ℤ) (a b c d e f g h : ℕ) → a < 256 → b < 256 → c < 256 → d < 256 → e < 256 → f < 256 → g < 256 → h < 256 →
+pub packs_eight : (cs : List ℤ) (a b c d e f g h w : ℕ) → a < 256 → b < 256 → c < 256 → d < 256 → e < 256 → f < 256 → g < 256 → h < 256 → w ≡ a + b * 256 + c * 65536 + d * 16777216 + e * 4294967296 + f * 1099511627776 + g * 281474976710656 + h * 72057594037927936 →
     to_z w8 a ≡ get_or cs 0 (pos 0) → to_z w8 b ≡ get_or cs 1 (pos 0) → to_z w8 c ≡ get_or cs 2 (pos 0) → to_z w8 d ≡ get_or cs 3 (pos 0) →
-    to_z w8 e ≡ get_or cs 4 (pos 0) → to_z w8 f ≡ get_or cs 5 (pos 0) → to_z w8 g ≡ get_or cs 6 (pos 0) → to_z w8 h ≡ get_or cs 7 (pos 0) →
-    Packs cs (a + 256 * (b + 256 * (c + 256 * (d + 256 * (e + 256 * (f + 256 * (g + 256 * h)))))))
+    to_z w8 e ≡ get_or cs 4 (pos 0) → to_z w8 f ≡ get_or cs 5 (pos 0) → to_z w8 g ≡ get_or cs 6 (pos 0) → to_z w8 h ≡ get_or cs 7 (pos 0) → Packs cs w
 unfolding Packs
-packs_eight cs a b c d e f g h la lb lc ld le lf lg lh pa pb pc pd pe pf pg ph k l = get_d_bytes 8 (a + 256 * (b + 256 * (c + 256 * (d + 256 * (e + 256 * (f + 256 * (g + 256 * h))))))) k l ∙ go k l
+packs_eight cs a b c d e f g h w la lb lc ld le lf lg lh s pa pb pc pd pe pf pg ph k l = get_d_bytes 8 w k l ∙ go k l
   where
-    go : (k : ℕ) → k < 8 → to_z w8 ((a + 256 * (b + 256 * (c + 256 * (d + 256 * (e + 256 * (f + 256 * (g + 256 * h))))))) / 2 ^ (8 * k) % 256) ≡ get_or cs k (pos 0)
-    go zero l = let q : (a + 256 * (b + 256 * (c + 256 * (d + 256 * (e + 256 * (f + 256 * (g + 256 * h))))))) / 1 % 256 ≡ a = omega arith in ap (to_z w8) q ∙ pa
-    go (suc zero) l = let q : (a + 256 * (b + 256 * (c + 256 * (d + 256 * (e + 256 * (f + 256 * (g + 256 * h))))))) / 256 % 256 ≡ b = omega arith in ap (to_z w8) q ∙ pb
-    go (suc (suc zero)) l = let q : (a + 256 * (b + 256 * (c + 256 * (d + 256 * (e + 256 * (f + 256 * (g + 256 * h))))))) / 65536 % 256 ≡ c = omega arith in ap (to_z w8) q ∙ pc
-    go (suc (suc (suc zero))) l = let q : (a + 256 * (b + 256 * (c + 256 * (d + 256 * (e + 256 * (f + 256 * (g + 256 * h))))))) / 16777216 % 256 ≡ d = omega arith in ap (to_z w8) q ∙ pd
-    go (suc (suc (suc (suc zero)))) l = let q : (a + 256 * (b + 256 * (c + 256 * (d + 256 * (e + 256 * (f + 256 * (g + 256 * h))))))) / 4294967296 % 256 ≡ e = omega arith in ap (to_z w8) q ∙ pe
-    go (suc (suc (suc (suc (suc zero))))) l = let q : (a + 256 * (b + 256 * (c + 256 * (d + 256 * (e + 256 * (f + 256 * (g + 256 * h))))))) / 1099511627776 % 256 ≡ f = omega arith in ap (to_z w8) q ∙ pf
-    go (suc (suc (suc (suc (suc (suc zero)))))) l = let q : (a + 256 * (b + 256 * (c + 256 * (d + 256 * (e + 256 * (f + 256 * (g + 256 * h))))))) / 281474976710656 % 256 ≡ g = omega arith in ap (to_z w8) q ∙ pg
-    go (suc (suc (suc (suc (suc (suc (suc zero))))))) l = let q : (a + 256 * (b + 256 * (c + 256 * (d + 256 * (e + 256 * (f + 256 * (g + 256 * h))))))) / 72057594037927936 % 256 ≡ h = omega arith in ap (to_z w8) q ∙ ph
+    go : (k : ℕ) → k < 8 → to_z w8 (w / 2 ^ (8 * k) % 256) ≡ get_or cs k (pos 0)
+    go zero l = let q : w / 1 % 256 ≡ a = omega arith in ap (to_z w8) q ∙ pa
+    go (suc zero) l = let q : w / 256 % 256 ≡ b = omega arith in ap (to_z w8) q ∙ pb
+    go (suc (suc zero)) l = let q : w / 65536 % 256 ≡ c = omega arith in ap (to_z w8) q ∙ pc
+    go (suc (suc (suc zero))) l = let q : w / 16777216 % 256 ≡ d = omega arith in ap (to_z w8) q ∙ pd
+    go (suc (suc (suc (suc zero)))) l = let q : w / 4294967296 % 256 ≡ e = omega arith in ap (to_z w8) q ∙ pe
+    go (suc (suc (suc (suc (suc zero))))) l = let q : w / 1099511627776 % 256 ≡ f = omega arith in ap (to_z w8) q ∙ pf
+    go (suc (suc (suc (suc (suc (suc zero)))))) l = let q : w / 281474976710656 % 256 ≡ g = omega arith in ap (to_z w8) q ∙ pg
+    go (suc (suc (suc (suc (suc (suc (suc zero))))))) l = let q : w / 72057594037927936 % 256 ≡ h = omega arith in ap (to_z w8) q ∙ ph
     go (suc (suc (suc (suc (suc (suc (suc (suc k)))))))) l = absurd (omega arith)
 
 -- the numbers of w from number k on, still to be worked out

@@ -1,7 +1,9 @@
 -- Forms worked out over arrays of eight numbers have the values that the definition gives them.
 use mathlib.Core.Path.{◌≡◌, refl, sym, ap, ap₂, ◌∙◌, subst}
+use Rattle.std.specs.Prelude.{Result, Ok, Err, IsErr, IsErrAnd}
 use Prim.Native.Nat.{ℕ, zero, suc, ◌-◌, ◌≤◌}
 use native.Mathlib.Omega.{arith}
+use mathlib.Core.Bool.{false≢true}
 use mathlib.Core.List.{List, [], ◌∷◌}
 use lib.ListN.{length, get_or, take, length-take}
 use lib.IntN.{ℤ, pos, ◌+ℤ◌, ◌*ℤ◌}
@@ -10,17 +12,14 @@ use Rattle.reader.specs.Field.{Outcome, got, no}
 use Rattle.reader.specs.Syntax.{Form}
 use Rattle.reader.proofs.Binds.{not-got}
 use Rattle.reader.specs.Grammar.{form}
-use Rattle.reader.specs.Answers.{placed}
-use Rattle.reader.specs.Entries.{form_step, FormIs, form_says, coefficients_in}
-use Rattle.reader.specs.declared.fields.Place.{Place}
-use Rattle.reader.specs.declared.fields.Place.TheVariants.{Next, Not}
-use Rattle.reader.specs.declared.forms.FormRead.{FormRead}
+use Rattle.reader.specs.Answers.{through, read_says}
+use Rattle.reader.specs.Entries.{form_step, form_in, filled, padded}
+use Rattle.reader.specs.declared.forms.Form.{Form as Filled}
+use Rattle.model.specs.declared.question.Refusal.{Refusal}
 use Rattle.unroller.specs.Run.{products, value_at}
-use Rattle.unroller.specs.Forms.{form_sum, valued_says, Values}
+use Rattle.unroller.specs.Forms.{form_sum, Values}
 use Rattle.unroller.proofs.Sums.{sum_same, sum-value}
 use Rattle.unroller.proofs.Stands.{default_behind}
-use Rattle.unroller.specs.declared.forms.Valued.{Valued}
-use Rattle.unroller.specs.declared.forms.Valued.TheVariants.{Is, No}
 
 -- index values behind the last coefficient do not matter
 products-cut : (cs is : List ℤ) (n : ℕ) → length cs ≤ n → products cs (take n is) ≡ products cs is
@@ -29,47 +28,47 @@ products-cut (c ∷ cs) is zero h = absurd (omega arith)
 products-cut (c ∷ cs) [] (suc n) h = refl
 products-cut (c ∷ cs) (i ∷ is) (suc n) h = ap (λ (z : ℤ). c *ℤ i +ℤ z) (products-cut cs is n (omega arith))
 
-module _ (s : List ℕ) (at loops : ℕ) (is : List ℤ) (r : FormRead) (i : FormIs loops (form_step loops s at) r) where
-  -- the step is the form, where there are at most 8 loops
-  stepped : (f : Form) (next : ℕ) → form loops s at ≡ got f next → loops ≤ 8 → form_step loops s at ≡ got f next
-  unfolding form_step
-  stepped f next e h = rw (le-leb loops 8 h) e
+module _ (s : List ℕ) (at loops : ℕ) (is : List ℤ) (r : Result (Filled × ℕ) Refusal) (e : read_says r ≡ through filled (form_step loops s at)) (i : through (form_in loops) (read_says r) ≡ form_step loops s at) where
+  -- what was read is the form, with zeros, where there are at most 8 loops
+  says : (f : Form) (next : ℕ) → form loops s at ≡ got f next → loops ≤ 8 → read_says r ≡ got (filled f) next
+  unfolding form_step through
+  says f next h few = let q : form_step loops s at ≡ got f next = rw (le-leb loops 8 few) h in e ∙ ap (through filled) q
 
-  says : (f : Form) (next : ℕ) → form loops s at ≡ got f next → loops ≤ 8 → form_says loops r ≡ got f next
-  says f next e h = i.says ∙ stepped f next e h
+  -- so there are no more coefficients than loops
+  few_coefficients : (f : Form) (next : ℕ) → form loops s at ≡ got f next → loops ≤ 8 → length f.coefficients ≤ loops
+  unfolding form_step through
+  few_coefficients f next h few =
+      let q : form_step loops s at ≡ got f next = rw (le-leb loops 8 few) h in
+      let g : ◌≡◌ {A = Outcome Form} (got (form_in loops (filled f)) next) (got f next) = ap (through (form_in loops)) (sym (says f next h few)) ∙ i ∙ q in
+      let x : form_in loops (filled f) ≡ f = cc in
+      let n = length-take loops (padded 8 (pos 0) f.coefficients) in
+      subst (λ (l : List ℤ). length l ≤ loops) (ap (λ (f : Form). f.coefficients) x) (omega arith)
 
-  placed-not : {A : Type 0} (p : Place) (a b : A) (number place next : ℕ) → p ≡ Not number place → placed p a ≡ got b next → ⊥
-  placed-not {A} p a b number place next e q = let g : ◌≡◌ {A = Outcome A} (no number place) (got b next) = sym (ap (λ (p : Place). placed p a) e) ∙ q in let z : ◌≡◌ {A = ℕ} 0 1 = cc in omega arith
-
-  pub value-refused : (number place : ℕ) → r.answer ≡ Not number place → Values s at loops is (No number)
+  pub value-refused : (g : Refusal) → r ≡ Err g → Values s at loops is (Err g)
   unfolding Values
-  value-refused number place e f next p q h l = absurd (placed-not r.answer _ f number place next e (says f next q h))
+  value-refused g q f next h few l = not-got (sym (ap read_says q) ∙ says f next h few)
 
-  module _ (to : ℕ) (e : r.answer ≡ Next to) (v : ℤ) (w : v ≡ form_sum r.constant r.coefficients is 8) where
-    -- coefficients beyond the loops are 0
-    loops_alone : (f : Form) (next : ℕ) → form loops s at ≡ got f next → loops ≤ 8 → (k : ℕ) → get_or r.coefficients k (pos 0) ≡ get_or f.coefficients k (pos 0)
-    loops_alone f next q h k =
-        ap (λ (l : List ℤ). get_or l k (pos 0)) (i.coefficients ∙ ap coefficients_in (stepped f next q h)) ∙ default_behind (pos 0) f.coefficients (8 - length f.coefficients) k
+  pub value_formed : (F : Filled) (to : ℕ) (v : ℤ) → r ≡ Ok (F, to) → v ≡ form_sum F.constant F.coefficients is 8 → Values s at loops is (Ok (v, to))
+  unfolding Values
+  value_formed F to v q w f next h few l =
+      let g : ◌≡◌ {A = Outcome Filled} (got F to) (got (filled f) next) = sym (ap read_says q) ∙ says f next h few in
+      let x : F ≡ filled f = cc in
+      let n = few_coefficients f next h few in
+      ap₂ (λ (v : ℤ) (to : ℕ). got v to)
+      (w ∙ ap (λ (F : Filled). form_sum F.constant F.coefficients is 8) x
+      ∙ sum_same f.constant (padded 8 (pos 0) f.coefficients) f.coefficients is 8 (λ k b. default_behind (pos 0) f.coefficients (8 - length f.coefficients) k)
+      ∙ sum-value f.constant f.coefficients is 8 (omega arith)
+      ∙ ap (λ (p : ℤ). f.constant +ℤ p) (sym (products-cut f.coefficients is loops (omega arith))))
+      cc
 
-    formed : (f : Form) (next : ℕ) → form loops s at ≡ got f next → loops ≤ 8 → (v ≡ value_at f (take loops is)) × (to ≡ next)
-    formed f next q h =
-        let g : ◌≡◌ {A = Outcome Form} (got (record { constant = r.constant; coefficients = take loops r.coefficients }) to) (got f next) = sym (ap (λ (p : Place). placed p (record { constant = r.constant; coefficients = take loops r.coefficients })) e) ∙ says f next q h in
-        let x : ◌≡◌ {A = Form} (record { constant = r.constant; coefficients = take loops r.coefficients }) f = cc in
-        let n = length-take loops r.coefficients in
-        let few : length f.coefficients ≤ loops = subst (λ (l : List ℤ). length l ≤ loops) (ap (λ (f : Form). f.coefficients) x) (omega arith) in (
-          w ∙ sum_same r.constant r.coefficients f.coefficients is 8 (λ k b. loops_alone f next q h k)
-              ∙ sum-value r.constant f.coefficients is 8 (omega arith)
-              ∙ ap₂ (λ (z p : ℤ). z +ℤ p) (ap (λ (f : Form). f.constant) x) (sym (products-cut f.coefficients is loops few)),
-          cc,
-        )
-
-    pub value_formed : Values s at loops is (Is v to)
-    unfolding Values
-    value_formed f next p q h l = let g = formed f next q h in ap₂ (λ (v : ℤ) (to : ℕ). got v to) g.0 g.1
+-- a refusal that `?` hands on
+pub handed : {A E : Type 0} {r : Result A E} {e : E} → IsErr r × IsErrAnd r (λ f. f ≡ e) → r ≡ Err e
+handed {r = Ok x} h = absurd (false≢true h.0)
+handed {r = Err f} h = ap Err h.1
 
 -- an answer is one value or none
-pub values_none : (p : ℕ) (r : Valued) {x : ℤ} {next k : ℕ} {P : Type 0} → valued_says p r ≡ got x next → r ≡ No k → P
-values_none p r e q = not-got (sym (ap (valued_says p) q) ∙ e)
+pub values_none : {A P : Type 0} (r : Result (A × ℕ) Refusal) {x : A} {next : ℕ} {g : Refusal} → read_says r ≡ got x next → r ≡ Err g → P
+values_none r e q = not-got (sym (ap read_says q) ∙ e)
 
-pub values_some : (p : ℕ) (r : Valued) {x y : ℤ} {next to : ℕ} → valued_says p r ≡ got x next → r ≡ Is y to → (y ≡ x) × (to ≡ next)
-values_some p r {x} {y} {next} {to} e q = let g : ◌≡◌ {A = Outcome ℤ} (got y to) (got x next) = sym (ap (valued_says p) q) ∙ e in (cc, cc)
+pub values_some : {A : Type 0} (r : Result (A × ℕ) Refusal) {x y : A} {next to : ℕ} → read_says r ≡ got x next → r ≡ Ok (y, to) → (y ≡ x) × (to ≡ next)
+values_some {A} r {x} {y} {next} {to} e q = let g : ◌≡◌ {A = Outcome A} (got y to) (got x next) = sym (ap read_says q) ∙ e in (cc, cc)

@@ -36,7 +36,7 @@ fn run(program: &[u8], list: &mut [u32]) -> Result<usize, UnrollError>
     ensures { Unrolls program.now list.old result list.new }
 {
     let (tables, first) = tables_of(program)?;
-    header(tables, list);
+    header(&tables, list);
     let scope = Scope {
         program,
         tables: &flat(tables),

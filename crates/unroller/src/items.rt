@@ -38,11 +38,9 @@ impl<'a> Scope<'a> {
         let (first, middle) = self.value_at(at + 1)?;
         let (last, end) = self.value_at(middle)?;
         let (step, body) = step_at(self.program, end)?;
-        let first = short(first, at)?;
-        let last = short(last, at)?;
         Ok(Range {
-            first,
-            last,
+            first: short(first, at)?,
+            last: short(last, at)?,
             step,
             body,
         })

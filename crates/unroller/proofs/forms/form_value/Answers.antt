@@ -20,7 +20,7 @@ unfolding form_sum
 loop-rest-init c =
     let x = c.args.constant in
     let f : SFits w16 x = c.ranges.constant in
-    let e : to_z w32 (of_z w32 c.wide-sum.result) ≡ x = to_z-of_z {w = w32} (sfits_of c.wide-sum.type_inv) ∙ c.wide-sum.ensures ∙ to_z-of_z f in
+    let e : to_z w32 (of_z w32 c.from-sum.result) ≡ x = to_z-of_z {w = w32} (sfits_of c.from-sum.type_inv) ∙ c.from-sum.ensures ∙ to_z-of_z f in
     (omega arith, c.packed-rest.type_inv, sym (div-one _), e ∙ sym (to_z-of_z f), subst (λ (z : ℤ). nat_abs z ≤ 32768) (sym e) (abs_sfits f))
 
 pub offset_bounds-indices-k : goal.offset_bounds-indices-k
@@ -49,7 +49,7 @@ loop-rest-preserved c =
     let a = c.args in
     let h : k < 8 = rest_few w k rest i.1 i.0 i.2 (λ e. omega arith) in
     let x = get_or (bytes_of 8 w) k (pos 0) in
-    let y = get_or a.indices k (pos 0) in
+    let y = get_or a.indices.now k (pos 0) in
     let fx : SFits w8 c.i8_of.result = sfits_of c.i8_of.type_inv in
     let ex : c.i8_of.result ≡ x = c.i8_of.ensures ∙ rest_first w k rest i.1 i.0 i.2 h in
     let fy : SFits w16 y = sfits_of c.form_step-arg-1.given in
@@ -60,7 +60,7 @@ loop-rest-preserved c =
       omega arith,
       i.1,
       rest_next w k rest i.1 i.0 i.2,
-      e ∙ ap (λ (z : ℤ). z +ℤ (x *ℤ y)) i.3 ∙ ap (form_sum (to_z w16 (of_z w16 a.constant)) (bytes_of 8 w) a.indices) (sym (add-one k)),
+      e ∙ ap (λ (z : ℤ). z +ℤ (x *ℤ y)) i.3 ∙ ap (form_sum (to_z w16 (of_z w16 a.constant)) (bytes_of 8 w) a.indices.now) (sym (add-one k)),
       subst (λ (z : ℤ). nat_abs z ≤ 32768 + (k + 1) * 4194304) (sym r) b,
     )
 
@@ -68,7 +68,7 @@ pub returns : goal.returns
 returns c =
     let i = c.loop-rest.invariant in
     let a = c.args in record {
-      value = i.3 ∙ ap (λ (z : ℤ). form_sum z (bytes_of 8 c.packed-rest.result) a.indices c.loop-rest.k) (to_z-of_z c.ranges.constant)
-          ∙ rest_none _ _ _ i.1 i.0 i.2 a.constant a.coefficients a.indices c.packed-rest.ensures (omega arith);
+      value = i.3 ∙ ap (λ (z : ℤ). form_sum z (bytes_of 8 c.packed-rest.result) a.indices.now c.loop-rest.k) (to_z-of_z c.ranges.constant)
+          ∙ rest_none _ _ _ i.1 i.0 i.2 a.constant a.coefficients a.indices.now c.packed-rest.ensures (omega arith);
       bound = omega (arith, i.4, i.0);
     }

@@ -1,11 +1,9 @@
-use mathlib.Core.Path.{◌≡◌}
 use mathlib.Core.List.{List}
 use Prim.Native.Nat.{ℕ, ◌+◌, ◌-◌, ◌*◌}
 use lib.ListN.{length}
-use Rattle.reader.specs.Entries.{viewed, tables_in}
-use Rattle.unroller.specs.Walk.{progress, RunsItems}
+use Rattle.std.specs.Prelude.{None}
+use Rattle.unroller.specs.Walk.{Walk, RunsItems}
 use Rattle.unroller.specs.WalkItems.{RunsRounds}
-use Rattle.unroller.specs.declared.walk.Walk.{Walk}
 use Rattle.unroller.proofs.Indices.{Place, dist}
 use Rattle.unroller.proofs.items.+item_items_round_rounds_run_guard_run_loop.Given as goal
 
@@ -29,22 +27,19 @@ decreases-run_loop l = 5 * l.left + 0
 
 abbrev pub invariant-items-loop-place : goal.invariant-items-loop-place
 invariant-items-loop-place loop =
-    (length loop.list ≡ length loop.initial.list)
-    × ((r : Walk) (l f : List ℕ)
-    → RunsItems loop.program loop.place (tables_in loop.tables) (viewed loop.tables).bases loop.left loop.loops loop.indices (progress loop.m loop.n loop.u) loop.list loop.flags r l f
-    → RunsItems loop.program loop.initial.place (tables_in loop.tables) (viewed loop.tables).bases loop.left loop.loops loop.indices (progress loop.initial.m loop.initial.n loop.initial.u) loop.initial.list loop.initial.flags r l f)
+    (r : Walk) (l f : List ℕ) → RunsItems loop.scope loop.place loop.left loop.done loop.list loop.flags r l f
+    → RunsItems loop.scope loop.initial.place loop.left loop.initial.done loop.initial.list loop.initial.flags r l f
 
 abbrev pub decreases-items-loop-place : goal.decreases-items-loop-place
-decreases-items-loop-place l = length l.program - l.place
+decreases-items-loop-place l = length l.scope.program.now - l.place
 
-abbrev pub invariant-rounds-loop-indices : goal.invariant-rounds-loop-indices
-invariant-rounds-loop-indices loop =
-    (length loop.list ≡ length loop.initial.list)
-    × ((k : ℕ)
-    × Place loop.first loop.last loop.step loop.index k
+abbrev pub invariant-rounds-loop-past : goal.invariant-rounds-loop-past
+invariant-rounds-loop-past loop =
+    (k : ℕ)
+    × Place loop.range.first loop.range.last loop.range.step loop.index k
     × ((r : Walk) (l f : List ℕ)
-    → RunsRounds loop.program loop.at loop.body (tables_in loop.tables) (viewed loop.tables).bases loop.left loop.loops loop.indices loop.step loop.last k loop.index loop.past (progress loop.m loop.n loop.u) loop.list loop.flags r l f
-    → RunsRounds loop.program loop.at loop.body (tables_in loop.tables) (viewed loop.tables).bases loop.left loop.loops loop.indices loop.step loop.last 65536 loop.first 0 (progress loop.initial.m loop.initial.n loop.initial.u) loop.initial.list loop.initial.flags r l f))
+    → RunsRounds loop.scope loop.at loop.range.body loop.left loop.range.step loop.range.last k loop.index loop.past loop.done loop.list loop.flags r l f
+    → RunsRounds loop.scope loop.at loop.range.body loop.left loop.range.step loop.range.last 65536 loop.range.first None loop.initial.done loop.initial.list loop.initial.flags r l f)
 
-abbrev pub decreases-rounds-loop-indices : goal.decreases-rounds-loop-indices
-decreases-rounds-loop-indices l = dist l.step l.last l.index
+abbrev pub decreases-rounds-loop-past : goal.decreases-rounds-loop-past
+decreases-rounds-loop-past l = dist l.range.step l.range.last l.index
