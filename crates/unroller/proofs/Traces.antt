@@ -1,5 +1,6 @@
 -- The walk for an element's last writer: a law for each step of the code.
-use Rattle.std.specs.Prelude.{if◌then◌else◌}
+use Rattle.std.specs.Prelude.{if◌then◌else◌, Result, Ok, Err, Option as Maybe, Some, None}
+use Rattle.std.specs.Result.{result_ok}
 use mathlib.Core.Path.{◌≡◌, refl, sym, ap, ◌∙◌, subst}
 use Prim.Native.Nat.{ℕ, suc, ◌+◌, ◌≤◌, ◌<◌}
 use native.Mathlib.Omega.{arith}
@@ -14,16 +15,14 @@ use lib.IntN.{ℤ, pos}
 use lib.Signed.{le_z, lt_z}
 use borrow.Author.Tests.{ne_eqb, le-leb}
 use Rattle.model.specs.Tables.{Tables}
-use Rattle.reader.specs.Field.{Outcome, got, Reader}
+use Rattle.model.specs.declared.question.Question.{Question}
+use Rattle.model.specs.declared.question.Refusal.{Refusal}
+use Rattle.reader.specs.Field.{Outcome, got}
 use Rattle.reader.specs.Syntax.{Form, Expr, Item, Items, count}
 use Rattle.reader.specs.Syntax.Item.{statement, loop, guard}
 use Rattle.reader.specs.Grammar.{form, step, subscripts, index, expression, statement_of, item_of, nested, items, body}
-use Rattle.reader.specs.Answers.{field_says, place_says, through, ended}
+use Rattle.reader.specs.Answers.{read_says, place_says, through, ended}
 use Rattle.reader.specs.Entries.{padded, items_step, expression_step}
-use Rattle.reader.specs.declared.fields.Field.{Field}
-use Rattle.reader.specs.declared.fields.Field.TheVariants as field
-use Rattle.reader.specs.declared.fields.Place.{Place}
-use Rattle.reader.specs.declared.fields.Place.TheVariants as place
 use Rattle.reader.proofs.Binds.{not-got}
 use Rattle.reader.proofs.Forward.{held-got, index-held}
 use Rattle.reader.proofs.Lists.{padded-set}
@@ -32,19 +31,58 @@ use Rattle.unroller.specs.Forms.{Values}
 use Rattle.unroller.specs.WalkItems.{Ends, within16, RangeIs, Ranges}
 use Rattle.unroller.specs.Writes.{CellIs, CellsFrom, CellOf}
 use Rattle.unroller.specs.Executed.{Executed, each, executed, executeds, writes_to, or_else, last, Origin, end_in, end_of, origin_at}
-use Rattle.unroller.specs.Origins.{Writer, held, writer_is, Seen, Passed, Eight, PastIs, TracesStatement, TracesItem, TracesItems, TracesNested, TracesRound, TracesRounds, Finds}
-use Rattle.unroller.specs.declared.forms.Valued.{Valued}
-use Rattle.unroller.specs.declared.forms.Valued.TheVariants as valued
+use Rattle.unroller.specs.Scopes.{bytes, tables, around, inside}
+use Rattle.unroller.specs.Walk.{item_in}
+use Rattle.unroller.specs.Origins.{writer_is, Seen, Passed, Eight, PastIs, TracesStatement, TracesItem, TracesItems, TracesNested, TracesRound, TracesRounds}
+use Rattle.unroller.specs.declared.walk.Scope.{Scope}
 use Rattle.unroller.specs.declared.items.Range.{Range}
-use Rattle.unroller.specs.declared.items.Range.TheVariants as range
-use Rattle.unroller.specs.declared.statement.Cell.{Cell}
-use Rattle.unroller.specs.declared.statement.Cell.TheVariants as cell
+use Rattle.unroller.specs.declared.origins.Element.{Element}
+use Rattle.unroller.specs.declared.origins.Writer.{Writer}
 use Rattle.unroller.proofs.Runs.{run_by, ask_by}
 use Rattle.unroller.proofs.Indices.{indices_none}
 use Rattle.unroller.proofs.WalkForward.{item_forward, told}
-use Rattle.unroller.proofs.WalkItems.{items_in, items_by, sign_true, sign_false, guard_by, loop_by}
-use Rattle.unroller.proofs.Values.{values_none, values_some}
+use Rattle.unroller.proofs.WalkItems.{none_some, items_in, items_by, sign_true, sign_false, guard_by, loop_by}
 use Rattle.unroller.proofs.Executed.{statement_by}
+
+-- ---- answers whose refusal is dropped
+pub some_same : {A : Type 0} {a b : A} → ◌≡◌ {A = Maybe A} (Some a) (Some b) → a ≡ b
+some_same e = cc
+
+pub ok_is : {A E : Type 0} (r : Result A E) {a : A} → result_ok r ≡ Some a → r ≡ Ok a
+ok_is (Ok y) q = ap Ok (some_same q)
+ok_is (Err g) q = none_some q
+
+module _ {A : Type 0} where
+  pub read_lost : {P : Type 0} (r : Result (A × ℕ) Refusal) {x : A} {next : ℕ} → read_says r ≡ got x next → result_ok r ≡ None → P
+  read_lost (Ok y) e q = none_some (sym q)
+  read_lost (Err g) e q = not-got e
+
+  pub read_kept : (r : Result (A × ℕ) Refusal) {x y : A} {next to : ℕ} → read_says r ≡ got x next → result_ok r ≡ Some (y, to) → (y ≡ x) × (to ≡ next)
+  read_kept (Ok p) {x} {y} {next} {to} e q =
+      let h : p ≡ (y, to) = some_same q in
+      let g : ◌≡◌ {A = Outcome A} (got y to) (got x next) = ap (λ (p : A × ℕ). got p.0 p.1) (sym h) ∙ e in
+      (cc, cc)
+  read_kept (Err g) e q = not-got e
+
+place_kept : (r : Result ℕ Refusal) {next : ℕ} → place_says r ≡ got 0 next → result_ok r ≡ Some next
+place_kept (Ok to) {next} e = let g : ◌≡◌ {A = Outcome ℕ} (got 0 to) (got 0 next) = e in ap Some (let h : to ≡ next = cc in h)
+place_kept (Err g) e = not-got e
+
+range_lost : {P : Type 0} (u : Ends) (z : ℤ) (to : ℕ) (r : Result Range Refusal) → RangeIs (ok u) z to r → result_ok r ≡ None → P
+range_lost u z to (Ok x) h q = none_some (sym q)
+range_lost u z to (Err g) h q = absurd h
+
+range_kept : (u : Ends) (z : ℤ) (to : ℕ) (r : Result Range Refusal) {x : Range} → RangeIs (ok u) z to r → result_ok r ≡ Some x → x ≡ record { first = u.first; last = u.last; step = z; body = to }
+range_kept u z to (Ok y) h q = sym (some_same q) ∙ h
+range_kept u z to (Err g) h q = absurd h
+
+cell_lost : {P : Type 0} (c z : ℕ) (r : Result (ℕ × ℕ) Question) → CellIs (ok c) z r → result_ok r ≡ None → P
+cell_lost c z (Ok p) h q = none_some (sym q)
+cell_lost c z (Err k) h q = absurd h
+
+cell_kept : (c z : ℕ) (r : Result (ℕ × ℕ) Question) {found to : ℕ} → CellIs (ok c) z r → result_ok r ≡ Some (found, to) → (found ≡ c) × (to ≡ z)
+cell_kept c z (Ok p) h q = let k = some_same q in (sym (ap (λ (p : ℕ × ℕ). p.0) k) ∙ h.0, sym (ap (λ (p : ℕ × ℕ). p.1) k) ∙ h.1)
+cell_kept c z (Err k) h q = absurd h
 
 -- ---- the last of two rows of statements
 module _ {A : Type 0} where
@@ -67,119 +105,124 @@ module _ (s : List ℕ) (t : Tables) where
   origin_or none y = refl
 
   module _ (a e : ℕ) where
-    seen_none : (w : Writer) → Seen s t a e [] w w
+    seen_none : (w : Maybe Writer) → Seen s t a e [] w w
     unfolding Seen
     seen_none w o h = h
 
-    seen_then : (xs ys : List Executed) (w w₁ w₂ : Writer) → Seen s t a e xs w w₁ → Seen s t a e ys w₁ w₂ → Seen s t a e (xs ++ ys) w w₂
+    seen_then : (xs ys : List Executed) (w w₁ w₂ : Maybe Writer) → Seen s t a e xs w w₁ → Seen s t a e ys w₁ w₂ → Seen s t a e (xs ++ ys) w w₂
     unfolding Seen
     seen_then xs ys w w₁ w₂ h k o q =
         k (or_else (origin_at s t (last (writes_to t a e) xs)) o) (h o q)
         ∙ ap writer_is (or_assoc (origin_at s t (last (writes_to t a e) ys)) (origin_at s t (last (writes_to t a e) xs)) o
         ∙ ap (λ (z : Option Origin). or_else z o) (sym (origin_or (last (writes_to t a e) ys) (last (writes_to t a e) xs)) ∙ ap (origin_at s t) (sym (last_append (writes_to t a e) xs ys))))
 
-    pub passed_then : (xs ys : List Executed) (mid next : ℕ) (w : Writer) (r₁ : ℕ) (w₁ : Writer) (r₂ : ℕ) (w₂ : Writer) → Passed s t a e mid xs w r₁ w₁ → Passed s t a e next ys w₁ r₂ w₂ → Passed s t a e next (xs ++ ys) w r₂ w₂
+    pub passed_then : (xs ys : List Executed) (mid next : ℕ) (w : Maybe Writer) (r₁ : Maybe ℕ) (w₁ : Maybe Writer) (r₂ : Maybe ℕ) (w₂ : Maybe Writer) → Passed s t a e mid xs w r₁ w₁ → Passed s t a e next ys w₁ r₂ w₂ → Passed s t a e next (xs ++ ys) w r₂ w₂
     passed_then xs ys mid next w r₁ w₁ r₂ w₂ h k = record { to = k.to; seen = seen_then xs ys w w₁ w₂ h.seen k.seen }
 
-    pub passed_none : (n next : ℕ) (w : Writer) → n ≡ next → Passed s t a e next [] w n w
-    passed_none n next w q = record { to = q; seen = seen_none w }
+    pub passed_none : (r : Maybe ℕ) (next : ℕ) (w : Maybe Writer) → r ≡ Some next → Passed s t a e next [] w r w
+    passed_none r next w q = record { to = q; seen = seen_none w }
 
--- ---- items, one by one
-module _ (s : List ℕ) (t : Tables) (left loops : ℕ) (is : List ℤ) (a e at : ℕ) (w : Writer) where
-  one : ℕ → ℕ → Reader Item
-  one = item_of t (length s) (nested t (length s) left loops) loops
+-- ---- items, one by
+module _ (scope : Scope) (left at : ℕ) (element : Element) (w : Maybe Writer) where
+  pub items_out : (r : Maybe ℕ) (w' : Maybe Writer) → length (bytes scope) ≤ at → TracesItems scope at left element w r w'
+  unfolding TracesItems
+  items_out r w' h js next most d d' q _ _ _ = absurd (let k = items_in (item_in scope left) (bytes scope) at most q in omega arith)
 
-  pub items_out : (r : ℕ) (w' : Writer) → length s ≤ at → TracesItems s at t left loops is a e w r w'
-  unfolding TracesItems one
-  items_out r w' h js next most d d' q _ _ _ = absurd (let k = items_in one s at most q in omega arith)
-
-  pub items_end : get_or s at 0 ≡ 0 → TracesItems s at t left loops is a e w (at + 1) w
-  unfolding TracesItems one executeds item_of
+  pub items_end : get_or (bytes scope) at 0 ≡ 0 → TracesItems scope at left element w (Some (at + 1)) w
+  unfolding TracesItems executeds item_of
   items_end z js next most d d' q _ _ _ =
-      items_by one s at most q
-      (λ _ x y. subst (λ (js : Items). Passed s t a e next (executeds js (take loops is)) w (at + 1) w) (sym x) (passed_none s t a e (at + 1) next w (sym y)))
+      items_by (item_in scope left) (bytes scope) at most q
+      (λ _ x y. subst (λ (js : Items). Passed (bytes scope) (tables scope) element.array element.cell next (executeds js (around scope)) w (Some (at + 1)) w) (sym x) (passed_none (bytes scope) (tables scope) element.array element.cell (Some (at + 1)) next w (ap Some (sym y))))
       (λ less mid i js' e1 e2 x. absurd (no_item mid i e1))
     where
-      no_item : (mid : ℕ) (i : Item) → one (get_or s at 0) at s (at + 1) ≡ got i mid → ⊥
+      no_item : (mid : ℕ) (i : Item) → item_in scope left (get_or (bytes scope) at 0) at (bytes scope) (at + 1) ≡ got i mid → ⊥
       no_item mid i e = not-got (rw z at e)
 
-  module _ (nz : get_or s at 0 ≡ 0 → ⊥) (r₀ : ℕ) (w₀ : Writer) (first : TracesItem s at (get_or s at 0) t left loops is a e w r₀ w₀) where
-    pub items_step_lem : (r : ℕ) (w' : Writer) → TracesItems s r₀ t left loops is a e w₀ r w' → TracesItems s at t left loops is a e w r w'
-    unfolding TracesItem TracesItems one executeds runs
-    items_step_lem r w' v js next most d d' q b8 eight ran =
-        items_by one s at most q (λ z _ _. absurd (nz z)) λ less mid i js' e1 e2 x.
-        run_by (run i t (take loops is) d) _ (subst (λ (js : Items). runs js t (take loops is) d ≡ ok d') x ran) λ d₁ r1 r2.
-        let h = first i mid d d₁ e1 b8 eight r1 in
-        subst (λ (js : Items). Passed s t a e next (executeds js (take loops is)) w r w') (sym x)
-        (passed_then s t a e (executed i (take loops is)) (executeds js' (take loops is)) mid next w r₀ w₀ r w' h
-        (v js' next less d₁ d' (ap (items one less s) h.to ∙ e2) b8 eight r2))
+  module _ (nz : get_or (bytes scope) at 0 ≡ 0 → ⊥) (r₀ : Maybe ℕ) (w₀ : Maybe Writer) (first : TracesItem scope at (get_or (bytes scope) at 0) left element w r₀ w₀) where
+    pub items_lost : (r : Maybe ℕ) (w' : Maybe Writer) → r₀ ≡ None → TracesItems scope at left element w r w'
+    unfolding TracesItem TracesItems runs
+    items_lost r w' case js next most d d' q b8 eight ran =
+        items_by (item_in scope left) (bytes scope) at most q (λ z _ _. absurd (nz z)) λ less mid i js' e1 e2 x.
+        run_by (run i (tables scope) (around scope) d) _ (subst (λ (js : Items). runs js (tables scope) (around scope) d ≡ ok d') x ran) λ d₁ r1 r2.
+        none_some (sym case ∙ (first i mid d d₁ e1 b8 eight r1).to)
 
-    pub items_back : (r : ℕ) (w' : Writer) → r₀ ≤ at → TracesItems s at t left loops is a e w r w'
-    unfolding TracesItem TracesItems one runs
-    items_back r w' back js next most d d' q b8 eight ran =
-        items_by one s at most q (λ z _ _. absurd (nz z)) λ less mid i js' e1 e2 x.
-        run_by (run i t (take loops is) d) _ (subst (λ (js : Items). runs js t (take loops is) d ≡ ok d') x ran) λ d₁ r1 r2.
+    pub items_step_lem : (to : ℕ) → r₀ ≡ Some to → (r : Maybe ℕ) (w' : Maybe Writer) → TracesItems scope to left element w₀ r w' → TracesItems scope at left element w r w'
+    unfolding TracesItem TracesItems executeds runs
+    items_step_lem to case r w' v js next most d d' q b8 eight ran =
+        items_by (item_in scope left) (bytes scope) at most q (λ z _ _. absurd (nz z)) λ less mid i js' e1 e2 x.
+        run_by (run i (tables scope) (around scope) d) _ (subst (λ (js : Items). runs js (tables scope) (around scope) d ≡ ok d') x ran) λ d₁ r1 r2.
         let h = first i mid d d₁ e1 b8 eight r1 in
-        let n = item_forward s t left loops (get_or s at 0) at (items_in one s at most q) e1 in
-        absurd (let to = h.to in omega arith)
+        subst (λ (js : Items). Passed (bytes scope) (tables scope) element.array element.cell next (executeds js (around scope)) w r w') (sym x)
+        (passed_then (bytes scope) (tables scope) element.array element.cell (executed i (around scope)) (executeds js' (around scope)) mid next w r₀ w₀ r w' h
+        (v js' next less d₁ d' (ap (items (item_in scope left) less (bytes scope)) (some_same (sym case ∙ h.to)) ∙ e2) b8 eight r2))
+
+    pub items_back : (to : ℕ) → r₀ ≡ Some to → (r : Maybe ℕ) (w' : Maybe Writer) → to ≤ at → TracesItems scope at left element w r w'
+    unfolding TracesItem TracesItems runs
+    items_back to case r w' back js next most d d' q b8 eight ran =
+        items_by (item_in scope left) (bytes scope) at most q (λ z _ _. absurd (nz z)) λ less mid i js' e1 e2 x.
+        run_by (run i (tables scope) (around scope) d) _ (subst (λ (js : Items). runs js (tables scope) (around scope) d ≡ ok d') x ran) λ d₁ r1 r2.
+        let h = first i mid d d₁ e1 b8 eight r1 in
+        let n = item_forward (bytes scope) (tables scope) left scope.loops (get_or (bytes scope) at 0) at (items_in (item_in scope left) (bytes scope) at most q) e1 in
+        absurd (let same = some_same (sym case ∙ h.to) in omega arith)
 
   -- ---- one item, by its code
-  module _ (r : ℕ) (w' : Writer) where
-    pub item-statement : TracesStatement s at t loops is a e w r w' → TracesItem s at 1 t left loops is a e w r w'
+  module _ (r : Maybe ℕ) (w' : Maybe Writer) where
+    pub item-statement : TracesStatement scope at element w r w' → TracesItem scope at 1 left element w r w'
     unfolding TracesStatement TracesItem item_of
     item-statement v i next d d' q b8 eight ran = v i next d d' q (omega arith) eight ran
 
-    pub item-loop : TracesNested s at 2 t left loops is a e w r w' → TracesItem s at 2 t left loops is a e w r w'
+    pub item-loop : TracesNested scope at 2 left element w r w' → TracesItem scope at 2 left element w r w'
     unfolding TracesNested TracesItem item_of
     item-loop v i next d d' q b8 eight ran = v i next d d' q b8 eight ran
 
-    pub item-guard : TracesNested s at 3 t left loops is a e w r w' → TracesItem s at 3 t left loops is a e w r w'
+    pub item-guard : TracesNested scope at 3 left element w r w' → TracesItem scope at 3 left element w r w'
     unfolding TracesNested TracesItem item_of
     item-guard v i next d d' q b8 eight ran = v i next d d' q b8 eight ran
 
-    pub item_none : (code : ℕ) → (code ≡ 1 → ⊥) → (code ≡ 2 → ⊥) → (code ≡ 3 → ⊥) → TracesItem s at code t left loops is a e w r w'
+    pub item_none : (code : ℕ) → (code ≡ 1 → ⊥) → (code ≡ 2 → ⊥) → (code ≡ 3 → ⊥) → TracesItem scope at code left element w r w'
     unfolding TracesItem item_of
     item_none code n1 n2 n3 i next d d' q b8 eight ran = not-got (rw (ne_eqb code 1 n1, ne_eqb code 2 n2, ne_eqb code 3 n3) at q)
 
-    pub nested_none : (code : ℕ) → left ≡ 0 → TracesNested s at code t left loops is a e w r w'
+    pub nested_none : (code : ℕ) → left ≡ 0 → TracesNested scope at code left element w r w'
     unfolding TracesNested nested
     nested_none code z i next d d' q b8 eight ran = no_nested (rw z at q)
       where
-        no_nested : {P : Type 0} → nested t (length s) 0 loops code at s (at + 1) ≡ got i next → P
+        no_nested : {P : Type 0} → nested (tables scope) (length (bytes scope)) 0 scope.loops code at (bytes scope) (at + 1) ≡ got i next → P
         no_nested e = not-got e
 
 -- ---- guards
-module _ (s : List ℕ) (t : Tables) (left less loops : ℕ) (is : List ℤ) (a e at : ℕ) (w : Writer) (fewer : left ≡ suc less) where
+module _ (scope : Scope) (left less at : ℕ) (element : Element) (w : Maybe Writer) (fewer : left ≡ suc less) where
   -- a guard that ran, taken apart
-  guard-ran : {P : Type 0} (i : Item) (next : ℕ) (d d' : Done) → nested t (length s) left loops 3 at s (at + 1) ≡ got i next → run i t (take loops is) d ≡ ok d'
-      → ((g : Form) (mid : ℕ) (js : Items) → form loops s (at + 1) ≡ got g mid → body t (length s) less loops s mid ≡ got js next → i ≡ guard at g js
-      → ◌≡◌ {A = Ran Done} (elim (le_z (pos 0) (value_at g (take loops is))) as (λ b. Ran Done) [ true ↦ runs js t (take loops is) d | false ↦ ok d ]) (ok d') → P) → P
+  guard-ran : {P : Type 0} (i : Item) (next : ℕ) (d d' : Done) → nested (tables scope) (length (bytes scope)) left scope.loops 3 at (bytes scope) (at + 1) ≡ got i next → run i (tables scope) (around scope) d ≡ ok d'
+      → ((g : Form) (mid : ℕ) (js : Items) → form scope.loops (bytes scope) (at + 1) ≡ got g mid → body (tables scope) (length (bytes scope)) less scope.loops (bytes scope) mid ≡ got js next → i ≡ guard at g js
+      → ◌≡◌ {A = Ran Done} (elim (le_z (pos 0) (value_at g (around scope))) as (λ b. Ran Done) [ true ↦ runs js (tables scope) (around scope) d | false ↦ ok d ]) (ok d') → P) → P
   unfolding run
-  guard-ran i next d d' q ran k = guard_by s t left less loops at fewer q λ g mid js e1 e2 x. k g mid js e1 e2 x (subst (λ (i : Item). run i t (take loops is) d ≡ ok d') x ran)
+  guard-ran i next d d' q ran k = guard_by (bytes scope) (tables scope) left less scope.loops at fewer q λ g mid js e1 e2 x. k g mid js e1 e2 x (subst (λ (i : Item). run i (tables scope) (around scope) d ≡ ok d') x ran)
 
-  pub guard_lost : (v₀ : Valued) (k : ℕ) → v₀ ≡ valued.No k → Values s (at + 1) loops is v₀ → (r : ℕ) (w' : Writer) → TracesNested s at 3 t left loops is a e w r w'
-  unfolding TracesNested Values
-  guard_lost v₀ k case values r w' i next d d' q b8 eight ran = guard-ran i next d d' q ran λ g mid js e1 _ _ _. values_none at v₀ (values g mid at e1 (omega arith) eight.long) case
+  module _ (v₀ : Result (ℤ × ℕ) Refusal) (values : Values (bytes scope) (at + 1) scope.loops scope.indices v₀) (r : Maybe ℕ) (w' : Maybe Writer) where
+   pub guard_lost : result_ok v₀ ≡ None → TracesNested scope at 3 left element w r w'
+   unfolding TracesNested Values
+   guard_lost case i next d d' q b8 eight ran = guard-ran i next d d' q ran λ g mid js e1 _ _ _. read_lost v₀ (values g mid e1 (omega arith) eight.long) case
 
-  module _ (v₀ : Valued) (u : ℤ) (to : ℕ) (case : v₀ ≡ valued.Is u to) (values : Values s (at + 1) loops is v₀) (r : ℕ) (w' : Writer) where
-    pub guard-runs : lt_z u (pos 0) ≡ false → TracesItems s to t less loops is a e w r w' → TracesNested s at 3 t left loops is a e w r w'
+   module _ (u : ℤ) (to : ℕ) (case : result_ok v₀ ≡ Some (u, to)) where
+    pub guard-runs : lt_z u (pos 0) ≡ false → TracesItems scope to less element w r w' → TracesNested scope at 3 left element w r w'
     unfolding TracesNested TracesItems Values executed body
     guard-runs z v i next d d' q b8 eight ran = guard-ran i next d d' q ran λ g mid js e1 e2 x r1.
-        let h = values_some at v₀ (values g mid at e1 (omega arith) eight.long) case in
-        let l : le_z (pos 0) (value_at g (take loops is)) ≡ true = ap (le_z (pos 0)) (sym h.0) ∙ sign_true u z in
-        subst (λ (i : Item). Passed s t a e next (executed i (take loops is)) w r w') (sym x)
-        (subst (λ (b : Bool). Passed s t a e next (elim b as (λ b. List Executed) [ true ↦ executeds js (take loops is) | false ↦ [] ]) w r w') (sym l)
-        (v js next (length s) d d' (ap (body t (length s) less loops s) h.1 ∙ e2) (omega arith) eight
-        (subst (λ (b : Bool). ◌≡◌ {A = Ran Done} (elim b as (λ b. Ran Done) [ true ↦ runs js t (take loops is) d | false ↦ ok d ]) (ok d')) l r1)))
+        let h = read_kept v₀ (values g mid e1 (omega arith) eight.long) case in
+        let l : le_z (pos 0) (value_at g (around scope)) ≡ true = ap (le_z (pos 0)) (sym h.0) ∙ sign_true u z in
+        subst (λ (i : Item). Passed (bytes scope) (tables scope) element.array element.cell next (executed i (around scope)) w r w') (sym x)
+        (subst (λ (b : Bool). Passed (bytes scope) (tables scope) element.array element.cell next (elim b as (λ b. List Executed) [ true ↦ executeds js (around scope) | false ↦ [] ]) w r w') (sym l)
+        (v js next (length (bytes scope)) d d' (ap (body (tables scope) (length (bytes scope)) less scope.loops (bytes scope)) h.1 ∙ e2) (omega arith) eight
+        (subst (λ (b : Bool). ◌≡◌ {A = Ran Done} (elim b as (λ b. Ran Done) [ true ↦ runs js (tables scope) (around scope) d | false ↦ ok d ]) (ok d')) l r1)))
 
-    pub guard_passes : lt_z u (pos 0) ≡ true → Finds s to t less loops r → w' ≡ w → TracesNested s at 3 t left loops is a e w r w'
-    unfolding TracesNested Finds Values executed
-    guard_passes z v kept i next d d' q b8 eight ran = guard-ran i next d d' q ran λ g mid js e1 e2 x _.
-        let h = values_some at v₀ (values g mid at e1 (omega arith) eight.long) case in
-        let l : le_z (pos 0) (value_at g (take loops is)) ≡ false = ap (le_z (pos 0)) (sym h.0) ∙ sign_false u z in
-        subst (λ (i : Item). Passed s t a e next (executed i (take loops is)) w r w') (sym x)
-        (subst (λ (b : Bool). Passed s t a e next (elim b as (λ b. List Executed) [ true ↦ executeds js (take loops is) | false ↦ [] ]) w r w') (sym l)
-        (subst (λ (w' : Writer). Passed s t a e next [] w r w') (sym kept) (passed_none s t a e r next w (v js next (ap (body t (length s) less loops s) h.1 ∙ e2) (omega arith)))))
+    pub guard_passes : lt_z u (pos 0) ≡ true → (n₀ : Result ℕ Refusal) → place_says n₀ ≡ ended (items_step (tables scope) less scope.loops (bytes scope) to) → r ≡ result_ok n₀ → w' ≡ w → TracesNested scope at 3 left element w r w'
+    unfolding TracesNested Values executed
+    guard_passes z n₀ ends v kept i next d d' q b8 eight ran = guard-ran i next d d' q ran λ g mid js e1 e2 x _.
+        let h = read_kept v₀ (values g mid e1 (omega arith) eight.long) case in
+        let l : le_z (pos 0) (value_at g (around scope)) ≡ false = ap (le_z (pos 0)) (sym h.0) ∙ sign_false u z in
+        subst (λ (i : Item). Passed (bytes scope) (tables scope) element.array element.cell next (executed i (around scope)) w r w') (sym x)
+        (subst (λ (b : Bool). Passed (bytes scope) (tables scope) element.array element.cell next (elim b as (λ b. List Executed) [ true ↦ executeds js (around scope) | false ↦ [] ]) w r w') (sym l)
+        (subst (λ (w' : Maybe Writer). Passed (bytes scope) (tables scope) element.array element.cell next [] w r w') (sym kept) (passed_none (bytes scope) (tables scope) element.array element.cell r next w (v ∙ place_kept n₀ (told (bytes scope) to (tables scope) less scope.loops n₀ ends (ap (body (tables scope) (length (bytes scope)) less scope.loops (bytes scope)) h.1 ∙ e2) (omega arith))))))
 
 -- ---- loops
 -- ends that lie in 16 signed bits
@@ -187,177 +230,172 @@ within-ok : (p : ℕ) (first final : ℤ) → (fits16 first && fits16 final) ≡
 unfolding within16
 within-ok p first final q = rw q refl
 
-module _ (s : List ℕ) (t : Tables) (left less loops : ℕ) (is : List ℤ) (a e at : ℕ) (w : Writer) (fewer : left ≡ suc less) where
+module _ (scope : Scope) (left less at : ℕ) (element : Element) (w : Maybe Writer) (fewer : left ≡ suc less) where
   abbrev ends : Form → Form → Ran Ends
-  ends f g = within16 at (value_at f (take loops is)) (value_at g (take loops is))
+  ends f g = within16 at (value_at f (around scope)) (value_at g (around scope))
 
   -- a loop that ran, taken apart
-  loop-ran : {P : Type 0} (i : Item) (next : ℕ) (d d' : Done) → nested t (length s) left loops 2 at s (at + 1) ≡ got i next → run i t (take loops is) d ≡ ok d'
-      → ((f g : Form) (z : ℤ) (m n to : ℕ) (js : Items) → form loops s (at + 1) ≡ got f m → form loops s m ≡ got g n → step s n ≡ got z to
-      → body t (length s) less (loops + 1) s to ≡ got js next → i ≡ loop at f g z js → ends f g ≡ ok (record { first = value_at f (take loops is); last = value_at g (take loops is) })
-      → rounds (indices 65536 z (value_at g (take loops is)) (value_at f (take loops is))) at (λ k d. runs js t (take loops is ++ (k ∷ [])) d) d ≡ ok d' → P) → P
+  loop-ran : {P : Type 0} (i : Item) (next : ℕ) (d d' : Done) → nested (tables scope) (length (bytes scope)) left scope.loops 2 at (bytes scope) (at + 1) ≡ got i next → run i (tables scope) (around scope) d ≡ ok d'
+      → ((f g : Form) (z : ℤ) (m n to : ℕ) (js : Items) → form scope.loops (bytes scope) (at + 1) ≡ got f m → form scope.loops (bytes scope) m ≡ got g n → step (bytes scope) n ≡ got z to
+      → body (tables scope) (length (bytes scope)) less (scope.loops + 1) (bytes scope) to ≡ got js next → i ≡ loop at f g z js → ends f g ≡ ok (record { first = value_at f (around scope); last = value_at g (around scope) })
+      → rounds (indices 65536 z (value_at g (around scope)) (value_at f (around scope))) at (λ k d. runs js (tables scope) (around scope ++ (k ∷ [])) d) d ≡ ok d' → P) → P
   unfolding run
-  loop-ran i next d d' q ran k = loop_by s t left less loops at fewer q λ f g z m n to js e1 e2 e3 e4 x.
-      ask_by 15 at (fits16 (value_at f (take loops is)) && fits16 (value_at g (take loops is))) _ (subst (λ (i : Item). run i t (take loops is) d ≡ ok d') x ran) λ fit r1.
-      k f g z m n to js e1 e2 e3 e4 x (within-ok at (value_at f (take loops is)) (value_at g (take loops is)) fit) r1
+  loop-ran i next d d' q ran k = loop_by (bytes scope) (tables scope) left less scope.loops at fewer q λ f g z m n to js e1 e2 e3 e4 x.
+      ask_by 15 at (fits16 (value_at f (around scope)) && fits16 (value_at g (around scope))) _ (subst (λ (i : Item). run i (tables scope) (around scope) d ≡ ok d') x ran) λ fit r1.
+      k f g z m n to js e1 e2 e3 e4 x (within-ok at (value_at f (around scope)) (value_at g (around scope)) fit) r1
 
-  pub loop_lost : (r₀ : Range) (k : ℕ) → r₀ ≡ range.No k → Ranges s (at + 1) loops is r₀ → (r : ℕ) (w' : Writer) → TracesNested s at 2 t left loops is a e w r w'
-  unfolding TracesNested Ranges
-  loop_lost r₀ k case ranges r w' i next d d' q b8 eight ran = loop-ran i next d d' q ran λ f g z m n to js e1 e2 e3 _ _ good _.
-      lost (ends f g) z to (record { first = value_at f (take loops is); last = value_at g (take loops is) }) good
-      (subst (λ (u : Range). RangeIs (ends f g) z to u) case (ranges f g z m n to at e1 e2 e3 (omega arith) eight.long))
-    where
-      lost : {P : Type 0} (m : Ran Ends) (z : ℤ) (to : ℕ) (x : Ends) → m ≡ ok x → RangeIs m z to (range.No k) → P
-      lost m z to x q h = absurd (subst (λ (m : Ran Ends). RangeIs m z to (range.No k)) q h)
+  module _ (r₀ : Result Range Refusal) (ranges : Ranges scope at r₀) (r : Maybe ℕ) (w' : Maybe Writer) where
+    -- the range of a loop that ran
+    ranged : {f g : Form} {z : ℤ} {m n to : ℕ} → form scope.loops (bytes scope) (at + 1) ≡ got f m → form scope.loops (bytes scope) m ≡ got g n → step (bytes scope) n ≡ got z to → scope.loops ≤ 8 → length scope.indices ≡ 8
+        → ends f g ≡ ok (record { first = value_at f (around scope); last = value_at g (around scope) })
+        → RangeIs (ok (record { first = value_at f (around scope); last = value_at g (around scope) })) z to r₀
+    unfolding Ranges
+    ranged {f} {g} {z} {m} {n} {to} e1 e2 e3 b8 l8 good = subst (λ (u : Ran Ends). RangeIs u z to r₀) good (ranges f g z m n to e1 e2 e3 b8 l8)
 
-  pub loop-runs : (r₀ : Range) (x y c : ℤ) (from : ℕ) → r₀ ≡ range.Over x y c from → Ranges s (at + 1) loops is r₀ → (r : ℕ) (w' : Writer)
-      → TracesRounds s from t less loops is c y 65536 x 0 a e w r w' → TracesNested s at 2 t left loops is a e w r w'
-  unfolding TracesNested TracesRounds Ranges executed
-  loop-runs r₀ x y c from case ranges r w' v i next d d' q b8 eight ran = loop-ran i next d d' q ran λ f g z m n to js e1 e2 e3 e4 l good r1.
-      let final = value_at g (take loops is) in
-      let h = over (ends f g) z to (record { first = value_at f (take loops is); last = final }) good
-      (subst (λ (u : Range). RangeIs (ends f g) z to u) case (ranges f g z m n to at e1 e2 e3 (omega arith) eight.long)) in
-      let k = v js next at d d' (ap (body t (length s) less (loops + 1) s) h.3 ∙ e4) (omega arith) eight (λ z. absurd (omega arith))
-      (subst (λ (z : ℤ). rounds (indices 65536 z y x) at (λ k d. runs js t (take loops is ++ (k ∷ [])) d) d ≡ ok d') (sym h.2)
-      (subst (λ (y : ℤ). rounds (indices 65536 z y x) at (λ k d. runs js t (take loops is ++ (k ∷ [])) d) d ≡ ok d') (sym h.1)
-      (subst (λ (x : ℤ). rounds (indices 65536 z final x) at (λ k d. runs js t (take loops is ++ (k ∷ [])) d) d ≡ ok d') (sym h.0) r1))) in
-      subst (λ (i : Item). Passed s t a e next (executed i (take loops is)) w r w') (sym l)
-      (subst (λ (u : ℤ). Passed s t a e next (each (λ k. executeds js (take loops is ++ (k ∷ []))) (indices 65536 z final u)) w r w') h.0
-      (subst (λ (u : ℤ). Passed s t a e next (each (λ k. executeds js (take loops is ++ (k ∷ []))) (indices 65536 z u x)) w r w') h.1
-      (subst (λ (u : ℤ). Passed s t a e next (each (λ k. executeds js (take loops is ++ (k ∷ []))) (indices 65536 u y x)) w r w') h.2 k)))
-    where
-      over : (m : Ran Ends) (z : ℤ) (to : ℕ) (u : Ends) → m ≡ ok u → RangeIs m z to (range.Over x y c from) → (x ≡ u.first) × (y ≡ u.last) × (c ≡ z) × (from ≡ to)
-      over m z to u q h = subst (λ (m : Ran Ends). RangeIs m z to (range.Over x y c from)) q h
+    pub loop_lost : result_ok r₀ ≡ None → TracesNested scope at 2 left element w r w'
+    unfolding TracesNested
+    loop_lost case i next d d' q b8 eight ran = loop-ran i next d d' q ran λ f g z m n to js e1 e2 e3 _ _ good _.
+        range_lost (record { first = value_at f (around scope); last = value_at g (around scope) }) z to r₀ (ranged e1 e2 e3 (omega arith) eight.long good) case
+
+    pub loop-runs : (u : Range) → result_ok r₀ ≡ Some u → TracesRounds scope u.body less u.step u.last 65536 u.first None element w r w' → TracesNested scope at 2 left element w r w'
+    unfolding TracesNested TracesRounds executed
+    loop-runs u case v i next d d' q b8 eight ran = loop-ran i next d d' q ran λ f g z m n to js e1 e2 e3 e4 l good r1.
+        let h = range_kept (record { first = value_at f (around scope); last = value_at g (around scope) }) z to r₀ (ranged e1 e2 e3 (omega arith) eight.long good) case in
+        let k : Range = record { first = value_at f (around scope); last = value_at g (around scope); step = z; body = to } in
+        subst (λ (i : Item). Passed (bytes scope) (tables scope) element.array element.cell next (executed i (around scope)) w r w') (sym l)
+        (subst
+        (λ (u : Range). Passed (bytes scope) (tables scope) element.array element.cell next (each (λ k. executeds js (around scope ++ (k ∷ []))) (indices 65536 u.step u.last u.first)) w r w')
+        h
+        (v js next at d d' (subst (λ (u : Range). body (tables scope) (length (bytes scope)) less (scope.loops + 1) (bytes scope) u.body ≡ got js next) (sym h) e4) (omega arith) eight (λ z e. none_some e)
+        (subst (λ (u : Range). rounds (indices 65536 u.step u.last u.first) at (λ k d. runs js (tables scope) (around scope ++ (k ∷ [])) d) d ≡ ok d') (sym h) r1)))
 
 -- ---- rounds
-module _ (s : List ℕ) (from : ℕ) (t : Tables) (left loops : ℕ) (is : List ℤ) (a e : ℕ) where
-  module _ (step final : ℤ) (most : ℕ) (index : ℤ) (to : ℕ) (w : Writer) where
-    pub rounds-found : goes_on step final index ≡ false → 0 < to → TracesRounds s from t left loops is step final most index to a e w to w
+module _ (scope : Scope) (from left : ℕ) (element : Element) where
+  module _ (step final : ℤ) (most : ℕ) (index : ℤ) (past : Maybe ℕ) (w : Maybe Writer) where
+    pub rounds-found : (n : ℕ) → goes_on step final index ≡ false → past ≡ Some n → TracesRounds scope from left step final most index past element w (Some n) w
     unfolding TracesRounds
-    rounds-found g k js next p d d' q b8 eight found ran = rw (indices_none most step final index g) (passed_none s t a e to next w (found k))
+    rounds-found n g k js next p d d' q b8 eight found ran = rw (indices_none most step final index g) (passed_none (bytes scope) (tables scope) element.array element.cell (Some n) next w (ap Some (found n k)))
 
-    pub rounds_none : (n : ℕ) → goes_on step final index ≡ false → Finds s from t left (loops + 1) n → TracesRounds s from t left loops is step final most index to a e w n w
-    unfolding TracesRounds Finds
-    rounds_none n g u js next p d d' q b8 eight found ran = rw (indices_none most step final index g) (passed_none s t a e n next w (u js next q (omega arith)))
+    pub rounds_none : (n₀ : Result ℕ Refusal) (r : Maybe ℕ) → goes_on step final index ≡ false → place_says n₀ ≡ ended (items_step (tables scope) left (scope.loops + 1) (bytes scope) from) → r ≡ result_ok n₀
+        → TracesRounds scope from left step final most index past element w r w
+    unfolding TracesRounds
+    rounds_none n₀ r g ends v js next p d d' q b8 eight found ran =
+        rw (indices_none most step final index g)
+        (passed_none (bytes scope) (tables scope) element.array element.cell r next w (v ∙ place_kept n₀ (told (bytes scope) from (tables scope) left (scope.loops + 1) n₀ ends q (omega arith))))
 
-    pub rounds-step : (less : ℕ) (i after : ℤ) → indices most step final index ≡ i ∷ indices less step final after → (r₀ : ℕ) (w₀ : Writer) → TracesRound s from t left loops is i a e w r₀ w₀ → (r : ℕ) (w' : Writer)
-        → TracesRounds s from t left loops is step final less after r₀ a e w₀ r w' → TracesRounds s from t left loops is step final most index to a e w r w'
-    unfolding TracesRounds TracesRound rounds
-    rounds-step less i after more r₀ w₀ u r w' v js next p d d' q b8 eight found ran =
-        ask_by 18 p (leb (d.rounds + 1) 65536) _ (subst (λ (l : List ℤ). rounds l p (λ k d. runs js t (take loops is ++ (k ∷ [])) d) d ≡ ok d') more ran) λ _ r1.
-        run_by (runs js t (take loops is ++ (i ∷ [])) (record { rounds = d.rounds + 1; nodes = d.nodes; updates = d.updates })) _ r1 λ d₁ r2 r3.
-        let h = u js next (record { rounds = d.rounds + 1; nodes = d.nodes; updates = d.updates }) d₁ q b8 eight r2 in
-        subst (λ (l : List ℤ). Passed s t a e next (each (λ k. executeds js (take loops is ++ (k ∷ []))) l) w r w') (sym more)
-        (passed_then s t a e (executeds js (take loops is ++ (i ∷ []))) (each (λ k. executeds js (take loops is ++ (k ∷ []))) (indices less step final after)) next next w r₀ w₀ r w' h
-        (v js next p d₁ d' q b8 eight (λ _. h.to) r3))
+    module _ (less : ℕ) (i after : ℤ) (more : indices most step final index ≡ i ∷ indices less step final after) (r₀ : Maybe ℕ) (w₀ : Maybe Writer) (u : TracesRound scope from left i element w r₀ w₀) where
+      pub rounds_lost : r₀ ≡ None → (r : Maybe ℕ) (w' : Maybe Writer) → TracesRounds scope from left step final most index past element w r w'
+      unfolding TracesRounds TracesRound rounds
+      rounds_lost case r w' js next p d d' q b8 eight found ran =
+          ask_by 18 p (leb (d.rounds + 1) 65536) _ (subst (λ (l : List ℤ). rounds l p (λ k d. runs js (tables scope) (around scope ++ (k ∷ [])) d) d ≡ ok d') more ran) λ _ r1.
+          run_by (runs js (tables scope) (around scope ++ (i ∷ [])) (record { rounds = d.rounds + 1; nodes = d.nodes; updates = d.updates })) _ r1 λ d₁ r2 r3.
+          none_some (sym case ∙ (u js next (record { rounds = d.rounds + 1; nodes = d.nodes; updates = d.updates }) d₁ q b8 eight r2).to)
 
-  pub round-runs : (index : ℤ) (w : Writer) (r : ℕ) (w' : Writer) → TracesItems s from t left (loops + 1) (set is loops index) a e w r w' → TracesRound s from t left loops is index a e w r w'
+      pub rounds-step : (to : ℕ) → r₀ ≡ Some to → (r : Maybe ℕ) (w' : Maybe Writer) → TracesRounds scope from left step final less after (Some to) element w₀ r w' → TracesRounds scope from left step final most index past element w r w'
+      unfolding TracesRounds TracesRound rounds
+      rounds-step to case r w' v js next p d d' q b8 eight found ran =
+          ask_by 18 p (leb (d.rounds + 1) 65536) _ (subst (λ (l : List ℤ). rounds l p (λ k d. runs js (tables scope) (around scope ++ (k ∷ [])) d) d ≡ ok d') more ran) λ _ r1.
+          run_by (runs js (tables scope) (around scope ++ (i ∷ [])) (record { rounds = d.rounds + 1; nodes = d.nodes; updates = d.updates })) _ r1 λ d₁ r2 r3.
+          let h = u js next (record { rounds = d.rounds + 1; nodes = d.nodes; updates = d.updates }) d₁ q b8 eight r2 in
+          subst (λ (l : List ℤ). Passed (bytes scope) (tables scope) element.array element.cell next (each (λ k. executeds js (around scope ++ (k ∷ []))) l) w r w') (sym more)
+          (passed_then (bytes scope) (tables scope) element.array element.cell (executeds js (around scope ++ (i ∷ []))) (each (λ k. executeds js (around scope ++ (k ∷ []))) (indices less step final after)) next next w r₀ w₀ r w' h
+          (v js next p d₁ d' q b8 eight (λ n e. some_same (sym e ∙ sym case ∙ h.to)) r3))
+
+  pub round-runs : (index : ℤ) (w : Maybe Writer) (r : Maybe ℕ) (w' : Maybe Writer) → TracesItems (inside scope index) from left element w r w' → TracesRound scope from left index element w r w'
   unfolding TracesRound TracesItems body
   round-runs index w r w' v js next d d' q b8 eight ran =
-      let l : length is ≡ 8 = eight.long in
-      let n : length (take loops is) ≡ loops = length-take-le loops is (omega arith) in
-      let x : take (loops + 1) (set is loops index) ≡ take loops is ++ (index ∷ []) = ap (λ (n : ℕ). take n (set is loops index)) (add-one loops) ∙ take-suc-set is loops index (omega arith) in
-      let z : set is loops index ≡ padded 8 (pos 0) (take loops is ++ (index ∷ [])) = ap (λ (l : List ℤ). set l loops index) eight.zeros ∙ padded-set 8 (pos 0) (take loops is) loops index n (omega arith) in
-      subst (λ (l : List ℤ). Passed s t a e next (executeds js l) w r w') x
-      (v js next (length s) d d' q (omega arith) (record { long = length-set is loops index ∙ l; zeros = z ∙ ap (padded 8 (pos 0)) (sym x) })
-      (subst (λ (l : List ℤ). runs js t l d ≡ ok d') (sym x) ran))
+      let l : length scope.indices ≡ 8 = eight.long in
+      let n : length (around scope) ≡ scope.loops = length-take-le scope.loops scope.indices (omega arith) in
+      let x : take (scope.loops + 1) (set scope.indices scope.loops index) ≡ around scope ++ (index ∷ []) = ap (λ (n : ℕ). take n (set scope.indices scope.loops index)) (add-one scope.loops) ∙ take-suc-set scope.indices scope.loops index (omega arith) in
+      let z : set scope.indices scope.loops index ≡ padded 8 (pos 0) (around scope ++ (index ∷ [])) = ap (λ (l : List ℤ). set l scope.loops index) eight.zeros ∙ padded-set 8 (pos 0) (around scope) scope.loops index n (omega arith) in
+      subst (λ (l : List ℤ). Passed (bytes scope) (tables scope) element.array element.cell next (executeds js l) w r w') x
+      (v js next (length (bytes scope)) d d' q (omega arith) (record { long = length-set scope.indices scope.loops index ∙ l; zeros = z ∙ ap (padded 8 (pos 0)) (sym x) })
+      (subst (λ (l : List ℤ). runs js (tables scope) l d ≡ ok d') (sym x) ran))
 
-  pub round_empty : (index : ℤ) (w : Writer) → get_or s from 0 ≡ 0 → TracesRound s from t left loops is index a e w (from + 1) w
-  round_empty index w z = round-runs index w (from + 1) w (items_end s t left (loops + 1) (set is loops index) a e from w z)
-
--- ---- items that do not run
-module _ (s : List ℕ) (at : ℕ) (t : Tables) (left loops : ℕ) (p₀ : Place) (says : place_says p₀ ≡ ended (items_step t left loops s at)) where
-  pub finds_next : (to : ℕ) → p₀ ≡ place.Next to → Finds s at t left loops to
-  unfolding Finds
-  finds_next to case js next e h =
-      let g : ◌≡◌ {A = Outcome ℕ} (got 0 to) (got 0 next) = sym (ap place_says case) ∙ told s at t left loops p₀ says js next e h in
-      cc
-
-  pub finds_not : (k q : ℕ) → p₀ ≡ place.Not k q → (n : ℕ) → Finds s at t left loops n
-  unfolding Finds
-  finds_not k q case n js next e h = not-got (sym (ap place_says case) ∙ told s at t left loops p₀ says js next e h)
+  pub round_empty : (index : ℤ) (w : Maybe Writer) → get_or (bytes scope) from 0 ≡ 0 → TracesRound scope from left index element w (Some (from + 1)) w
+  round_empty index w z = round-runs index w (Some (from + 1)) w (items_end (inside scope index) left from element w z)
 
 -- ---- a statement
-module _ (s : List ℕ) (t : Tables) (loops : ℕ) (is : List ℤ) (a e at : ℕ) (w : Writer) where
+module _ (scope : Scope) (at : ℕ) (element : Element) (w : Maybe Writer) where
   -- one that ran, taken apart
-  statement-ran : {P : Type 0} (i : Item) (next : ℕ) (d d' : Done) → statement_of t loops at s (at + 1) ≡ got i next → run i t (take loops is) d ≡ ok d'
-      → ((b : ℕ) (fs : List Form) (x : Expr) (y z c : ℕ) → index (length t.arrays) s (at + 1) ≡ got b y → subscripts t loops b s y ≡ got fs z → expression t loops s z ≡ got x next
-      → i ≡ statement at b fs x → cell_at t at (take loops is) b fs ≡ ok c → P) → P
+  statement-ran : {P : Type 0} (i : Item) (next : ℕ) (d d' : Done) → statement_of (tables scope) scope.loops at (bytes scope) (at + 1) ≡ got i next → run i (tables scope) (around scope) d ≡ ok d'
+      → ((b : ℕ) (fs : List Form) (x : Expr) (y z c : ℕ) → index (length (tables scope).arrays) (bytes scope) (at + 1) ≡ got b y → subscripts (tables scope) scope.loops b (bytes scope) y ≡ got fs z → expression (tables scope) scope.loops (bytes scope) z ≡ got x next
+      → i ≡ statement at b fs x → cell_at (tables scope) at (around scope) b fs ≡ ok c → P) → P
   unfolding run update
-  statement-ran i next d d' q ran k = statement_by t loops at s (at + 1) q λ b fs x y z e1 e2 e3 l.
-      ask_by 19 at (leb (length d.updates + 1) 2048) _ (subst (λ (i : Item). run i t (take loops is) d ≡ ok d') l ran) λ _ r1.
+  statement-ran i next d d' q ran k = statement_by (tables scope) scope.loops at (bytes scope) (at + 1) q λ b fs x y z e1 e2 e3 l.
+      ask_by 19 at (leb (length d.updates + 1) 2048) _ (subst (λ (i : Item). run i (tables scope) (around scope) d ≡ ok d') l ran) λ _ r1.
       ask_by 20 at (leb (d.nodes + count x) 8192) _ r1 λ _ r2.
-      run_by (cell_at t at (take loops is) b fs) _ r2 λ c r3 _. k b fs x y z c e1 e2 e3 l r3
+      run_by (cell_at (tables scope) at (around scope) b fs) _ r2 λ c r3 _. k b fs x y z c e1 e2 e3 l r3
 
   -- its mark, where it writes the element
   statement-seen : (b : ℕ) (fs : List Form) (x : Expr) (next : ℕ) (b₀ : Bool)
-      → writes_to t a e (record { place = at; values = take loops is; array = b; subscripts = fs; source = x }) ≡ b₀ → Eight loops is → loops ≤ 8
-      → end_in at (statement_of t loops at s (at + 1)) ≡ next → (w' : Writer) → w' ≡ (if b₀ then held (at ∷ next ∷ loops ∷ []) is else w)
-      → Seen s t a e (executed (statement at b fs x) (take loops is)) w w'
+      → writes_to (tables scope) element.array element.cell (record { place = at; values = around scope; array = b; subscripts = fs; source = x }) ≡ b₀ → Eight scope.loops scope.indices → scope.loops ≤ 8
+      → end_in at (statement_of (tables scope) scope.loops at (bytes scope) (at + 1)) ≡ next → (w' : Maybe Writer) → w' ≡ (if b₀ then Some (record { from = at; to = next; count = scope.loops; indices = scope.indices }) else w)
+      → Seen (bytes scope) (tables scope) element.array element.cell (executed (statement at b fs x) (around scope)) w w'
   unfolding Seen executed end_of
   statement-seen b fs x next true q eight few f w' k o h =
-      let m : length (take loops is) ≡ loops = let n = eight.long in length-take-le loops is (omega arith) in
-      let f₁ : end_in at (statement_of t (length (take loops is)) at s (at + 1)) ≡ next = ap (λ (n : ℕ). end_in at (statement_of t n at s (at + 1))) m ∙ f in
+      let m : length (around scope) ≡ scope.loops = let n = eight.long in length-take-le scope.loops scope.indices (omega arith) in
+      let f₁ : end_in at (statement_of (tables scope) (length (around scope)) at (bytes scope) (at + 1)) ≡ next = ap (λ (n : ℕ). end_in at (statement_of (tables scope) n at (bytes scope) (at + 1))) m ∙ f in
       let f' = sym f₁ in
       let m' = sym m in
-      rw q (k ∙ λ j. held (at ∷ f' j ∷ m' j ∷ []) (eight.zeros j))
+      rw q (k ∙ λ j. Some (record { from = at; to = f' j; count = m' j; indices = eight.zeros j }))
   statement-seen b fs x next false q eight few f w' k o h = rw q (k ∙ h)
 
-  module _ (n : ℕ) (many : n ≡ length t.arrays) (f₀ : Field) (says : field_says f₀ ≡ index n s (at + 1)) where
-    pub no_array : (k q : ℕ) → f₀ ≡ field.Not k q → (r : ℕ) (w' : Writer) → TracesStatement s at t loops is a e w r w'
+  module _ (n : ℕ) (many : n ≡ length (tables scope).arrays) (f₀ : Result (ℕ × ℕ) Refusal) (says : read_says f₀ ≡ index n (bytes scope) (at + 1)) (r : Maybe ℕ) (w' : Maybe Writer) where
+    pub no_array : result_ok f₀ ≡ None → TracesStatement scope at element w r w'
     unfolding TracesStatement
-    no_array k q case r w' i next d d' h few eight ran = statement-ran i next d d' h ran λ b fs x y z c e1 e2 e3 l r1.
-        not-got (sym (ap field_says case) ∙ says ∙ ap (λ (m : ℕ). index m s (at + 1)) many ∙ e1)
+    no_array case i next d d' h few eight ran = statement-ran i next d d' h ran λ b fs x y z c e1 e2 e3 l r1.
+        read_lost f₀ (says ∙ ap (λ (m : ℕ). index m (bytes scope) (at + 1)) many ∙ e1) case
 
-    module _ (b y : ℕ) (case : f₀ ≡ field.Is b y) (c₀ : Cell) (cells : CellOf s y t loops is b c₀) where
+    module _ (b y : ℕ) (case : result_ok f₀ ≡ Some (b, y)) (c₀ : Result (ℕ × ℕ) Question) (cells : CellOf (bytes scope) y (tables scope) scope.loops scope.indices b c₀) where
       -- the target, and its cell
-      target-ran : {P : Type 0} (i : Item) (next : ℕ) (d d' : Done) → statement_of t loops at s (at + 1) ≡ got i next → loops ≤ 8 → Eight loops is → run i t (take loops is) d ≡ ok d'
-          → ((fs : List Form) (x : Expr) (z c : ℕ) → expression t loops s z ≡ got x next → i ≡ statement at b fs x → cell_at t at (take loops is) b fs ≡ ok c → CellIs (ok c) z c₀ → P) → P
+      target-ran : {P : Type 0} (i : Item) (next : ℕ) (d d' : Done) → statement_of (tables scope) scope.loops at (bytes scope) (at + 1) ≡ got i next → scope.loops ≤ 8 → Eight scope.loops scope.indices → run i (tables scope) (around scope) d ≡ ok d'
+          → ((fs : List Form) (x : Expr) (z c : ℕ) → expression (tables scope) scope.loops (bytes scope) z ≡ got x next → i ≡ statement at b fs x → cell_at (tables scope) at (around scope) b fs ≡ ok c → CellIs (ok c) z c₀ → P) → P
       unfolding CellOf CellsFrom subscripts cell_at
       target-ran {P} i next d d' h few eight ran k = statement-ran i next d d' h ran λ b' fs x y' z c e1 e2 e3 l r1.
-          let g : ◌≡◌ {A = Outcome ℕ} (got b y) (got b' y') = sym (ap field_says case) ∙ says ∙ ap (λ (m : ℕ). index m s (at + 1)) many ∙ e1 in
-          let p : b' ≡ b = cc in
-          let q : y' ≡ y = cc in
-          let e4 : subscripts t loops b s y ≡ got fs z = subst (λ (y : ℕ). subscripts t loops b s y ≡ got fs z) q (subst (λ (b : ℕ). subscripts t loops b s y' ≡ got fs z) p e2) in
-          let e5 : index (length t.arrays) s (at + 1) ≡ got b y' = subst (λ (b : ℕ). index (length t.arrays) s (at + 1) ≡ got b y') p e1 in
-          let r2 : cell_at t at (take loops is) b fs ≡ ok c = subst (λ (b : ℕ). cell_at t at (take loops is) b fs ≡ ok c) p r1 in
-          k fs x z c e3 (l ∙ ap (λ (b : ℕ). statement at b fs x) p) r2 (subst (λ (m : Ran ℕ). CellIs m z c₀) r2 (cells (held-got (λ x next. (x < length t.arrays) × (next ≡ at + 1 + 1) × (next ≤ length s)) (index-held s (length t.arrays) (at + 1)) e5).0 fs z at e4 few eight.long))
+          let g = read_kept f₀ (says ∙ ap (λ (m : ℕ). index m (bytes scope) (at + 1)) many ∙ e1) case in
+          let p : b' ≡ b = sym g.0 in
+          let q : y' ≡ y = sym g.1 in
+          let e4 : subscripts (tables scope) scope.loops b (bytes scope) y ≡ got fs z = subst (λ (y : ℕ). subscripts (tables scope) scope.loops b (bytes scope) y ≡ got fs z) q (subst (λ (b : ℕ). subscripts (tables scope) scope.loops b (bytes scope) y' ≡ got fs z) p e2) in
+          let e5 : index (length (tables scope).arrays) (bytes scope) (at + 1) ≡ got b y' = subst (λ (b : ℕ). index (length (tables scope).arrays) (bytes scope) (at + 1) ≡ got b y') p e1 in
+          let r2 : cell_at (tables scope) at (around scope) b fs ≡ ok c = subst (λ (b : ℕ). cell_at (tables scope) at (around scope) b fs ≡ ok c) p r1 in
+          k fs x z c e3 (l ∙ ap (λ (b : ℕ). statement at b fs x) p) r2 (subst (λ (m : Ran ℕ). CellIs m z c₀) r2 (cells (held-got (λ x next. (x < length (tables scope).arrays) × (next ≡ at + 1 + 1) × (next ≤ length (bytes scope))) (index-held (bytes scope) (length (tables scope).arrays) (at + 1)) e5).0 fs z at e4 few eight.long))
 
-      pub no_cell : (k : ℕ) → c₀ ≡ cell.No k → (r : ℕ) (w' : Writer) → TracesStatement s at t loops is a e w r w'
+      pub no_cell : result_ok c₀ ≡ None → TracesStatement scope at element w r w'
       unfolding TracesStatement
-      no_cell k case₂ r w' i next d d' h few eight ran = target-ran i next d d' h few eight ran λ fs x z c e3 l r1 v. absurd (subst (λ (c₀ : Cell). CellIs (ok c) z c₀) case₂ v)
+      no_cell case₂ i next d d' h few eight ran = target-ran i next d d' h few eight ran λ fs x z c e3 l r1 v. cell_lost c z c₀ v case₂
 
-      module _ (found z : ℕ) (case₂ : c₀ ≡ cell.Is found z) (b₀ : Bool) (hit : b₀ ≡ (eqb b a && eqb found e)) (r : ℕ) (w' : Writer) (ends : PastIs s at z t loops is b₀ w r w') where
+      module _ (found z : ℕ) (case₂ : result_ok c₀ ≡ Some (found, z)) (b₀ : Bool) (hit : b₀ ≡ (eqb b element.array && eqb found element.cell)) (ends : PastIs scope at z b₀ w r w') where
         -- whether the statement writes the element
-        test : (fs : List Form) (x : Expr) → cell_at t at (take loops is) b fs ≡ ok found
-            → writes_to t a e (record { place = at; values = take loops is; array = b; subscripts = fs; source = x }) ≡ b₀
+        test : (fs : List Form) (x : Expr) → cell_at (tables scope) at (around scope) b fs ≡ ok found
+            → writes_to (tables scope) element.array element.cell (record { place = at; values = around scope; array = b; subscripts = fs; source = x }) ≡ b₀
         unfolding writes_to
         test fs x r1 = rw r1 (sym hit)
 
-        pub statement-ends : TracesStatement s at t loops is a e w r w'
+        pub statement-ends : TracesStatement scope at element w r w'
         unfolding TracesStatement PastIs
         statement-ends i next d d' h few eight ran = target-ran i next d d' h few eight ran λ fs x z' c e3 l r1 v.
-            let u : (found ≡ c) × (z ≡ z') = subst (λ (c₀ : Cell). CellIs (ok c) z' c₀) case₂ v in
-            let k = ends x next (ap (λ (z : ℕ). expression t loops s z) u.1 ∙ e3) few in
+            let u = cell_kept c z' c₀ v case₂ in
+            let k = ends x next (ap (λ (z : ℕ). expression (tables scope) scope.loops (bytes scope) z) u.1 ∙ e3) few in
             let q = test fs x (r1 ∙ ap ok (sym u.0)) in
-            subst (λ (i : Item). Passed s t a e next (executed i (take loops is)) w r w') (sym l)
+            subst (λ (i : Item). Passed (bytes scope) (tables scope) element.array element.cell next (executed i (around scope)) w r w') (sym l)
             (record { to = k.0; seen = statement-seen b fs x next b₀ q eight few (ap (end_in at) h) w' k.1 })
 
 -- ---- the place past a statement
-module _ (s : List ℕ) (at source : ℕ) (t : Tables) (loops : ℕ) (is : List ℤ) (w : Writer) (g₀ : Field) (ends : field_says g₀ ≡ through count (expression_step t loops s source)) where
-  ended_at : (x : Expr) (next : ℕ) → expression t loops s source ≡ got x next → loops ≤ 8 → field_says g₀ ≡ got (count x) next
+module _ (scope : Scope) (at source : ℕ) (w : Maybe Writer) (g₀ : Result (ℕ × ℕ) Refusal) (ends : read_says g₀ ≡ through count (expression_step (tables scope) scope.loops (bytes scope) source)) where
+  ended_at : (x : Expr) (next : ℕ) → expression (tables scope) scope.loops (bytes scope) source ≡ got x next → scope.loops ≤ 8 → read_says g₀ ≡ got (count x) next
   unfolding through expression_step
   ended_at x next e few =
-      let q : expression_step t loops s source ≡ got x next = rw (le-leb loops 8 few) e in
+      let q : expression_step (tables scope) scope.loops (bytes scope) source ≡ got x next = rw (le-leb scope.loops 8 few) e in
       ends ∙ ap (through count) q
 
-  pub past_not : (hit : Bool) (k q : ℕ) → g₀ ≡ field.Not k q → (r : ℕ) (w' : Writer) → PastIs s at source t loops is hit w r w'
+  pub past_not : (hit : Bool) (r : Maybe ℕ) (w' : Maybe Writer) → result_ok g₀ ≡ None → PastIs scope at source hit w r w'
   unfolding PastIs
-  past_not hit k q case r w' x next e few = not-got (sym (ap field_says case) ∙ ended_at x next e few)
+  past_not hit r w' case x next e few = read_lost g₀ (ended_at x next e few) case
 
-  pub past_is : (hit : Bool) (n to : ℕ) → g₀ ≡ field.Is n to → (w' : Writer) → w' ≡ (if hit then held (at ∷ to ∷ loops ∷ []) is else w) → PastIs s at source t loops is hit w to w'
+  pub past_is : (hit : Bool) (n to : ℕ) → result_ok g₀ ≡ Some (n, to) → (w' : Maybe Writer) → w' ≡ (if hit then Some (record { from = at; to = to; count = scope.loops; indices = scope.indices }) else w)
+      → PastIs scope at source hit w (Some to) w'
   unfolding PastIs
   past_is hit n to case w' k x next e few =
-      let g : ◌≡◌ {A = Outcome ℕ} (got n to) (got (count x) next) = sym (ap field_says case) ∙ ended_at x next e few in
-      let z : to ≡ next = cc in
-      (z, subst (λ (n : ℕ). w' ≡ (if hit then held (at ∷ n ∷ loops ∷ []) is else w)) z k)
+      let z = (read_kept g₀ (ended_at x next e few) case).1 in
+      (ap Some z, subst (λ (n : ℕ). w' ≡ (if hit then Some (record { from = at; to = n; count = scope.loops; indices = scope.indices }) else w)) z k)

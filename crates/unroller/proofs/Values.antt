@@ -5,10 +5,10 @@ use Prim.Native.Nat.{ℕ, zero, suc, ◌-◌, ◌≤◌}
 use native.Mathlib.Omega.{arith}
 use mathlib.Core.Bool.{false≢true}
 use mathlib.Core.List.{List, [], ◌∷◌}
-use lib.ListN.{length, get_or, take, length-take}
+use lib.ListN.{length, take, length-take}
 use lib.IntN.{ℤ, pos, ◌+ℤ◌, ◌*ℤ◌}
 use borrow.Author.Tests.{le-leb}
-use Rattle.reader.specs.Field.{Outcome, got, no}
+use Rattle.reader.specs.Field.{Outcome, got}
 use Rattle.reader.specs.Syntax.{Form}
 use Rattle.reader.proofs.Binds.{not-got}
 use Rattle.reader.specs.Grammar.{form}
@@ -16,7 +16,7 @@ use Rattle.reader.specs.Answers.{through, read_says}
 use Rattle.reader.specs.Entries.{form_step, form_in, filled, padded}
 use Rattle.reader.specs.declared.forms.Form.{Form as Filled}
 use Rattle.model.specs.declared.question.Refusal.{Refusal}
-use Rattle.unroller.specs.Run.{products, value_at}
+use Rattle.unroller.specs.Run.{products}
 use Rattle.unroller.specs.Forms.{form_sum, Values}
 use Rattle.unroller.proofs.Sums.{sum_same, sum-value}
 use Rattle.unroller.proofs.Stands.{default_behind}

@@ -22,7 +22,7 @@ item_forward s t left loops code at h e = let k = held-got (Past s (at + 1)) (it
 
 -- the end of a run of items that does not run, as the reader answers it
 module _ (s : List ℕ) (at : ℕ) (t : Tables) (left loops : ℕ) (r : Result ℕ Refusal) (says : place_says r ≡ ended (items_step t left loops s at)) {js : Items} {next : ℕ} (e : body t (length s) left loops s at ≡ got js next) (h : loops + left ≤ 8) where
-  told : place_says r ≡ got 0 next
+  pub told : place_says r ≡ got 0 next
   unfolding through
   told = says ∙ ap (λ (m : Outcome Items). ended m) (items-shallow s at t left loops h ∙ e)
 

@@ -1,6 +1,6 @@
 use native.Mathlib.Omega.{arith}
-use mathlib.Core.Path.{◌≡◌, refl, sym, ◌∙◌, subst}
-use Rattle.std.proofs.Common.{rules, w16, w32, ℤ, ◌-◌}
+use mathlib.Core.Path.{refl}
+use Rattle.std.proofs.Common.{rules, w16, w32, ◌-◌}
 use mir.Facts.{to_z-of_z}
 use Rattle.unroller.proofs.Values.{handed}
 use Rattle.unroller.proofs.WalkItems.{items_out, items_end, items_step_lem, items_back, items-stop, item-statement, item-loop, item-guard, item_none, nested_none, guard-stop, guard-runs, guard_lost, guard_passes, loop-stop, loop-runs, rounds-found, rounds_lost, rounds_none, rounds-stop, rounds-step, round-full, round-runs, round_empty}

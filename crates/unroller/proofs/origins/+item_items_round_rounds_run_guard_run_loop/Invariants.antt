@@ -1,7 +1,8 @@
 use Prim.Native.Nat.{ℕ, ◌+◌, ◌-◌, ◌*◌}
 use lib.ListN.{length}
-use Rattle.reader.specs.Entries.{tables_in}
-use Rattle.unroller.specs.Origins.{Writer, held, TracesItems, TracesRounds}
+use Rattle.std.specs.Prelude.{Option, None}
+use Rattle.unroller.specs.Origins.{TracesItems, TracesRounds}
+use Rattle.unroller.specs.declared.origins.Writer.{Writer}
 use Rattle.unroller.proofs.Indices.{Place, dist}
 use Rattle.unroller.proofs.origins.+item_items_round_rounds_run_guard_run_loop.Given as goal
 
@@ -25,19 +26,17 @@ decreases-run_loop l = 5 * l.left + 0
 
 abbrev pub invariant-items-loop-place : goal.invariant-items-loop-place
 invariant-items-loop-place l =
-    (r : ℕ) (w : Writer) → TracesItems l.program l.place (tables_in l.tables) l.left l.loops l.indices l.array l.cell (held l.last l.values) r w
-    → TracesItems l.program l.initial.place (tables_in l.tables) l.left l.loops l.indices l.array l.cell (held l.initial.last l.initial.values) r w
+    (r : Option ℕ) (w : Option Writer) → TracesItems l.scope l.place l.left l.element l.last r w → TracesItems l.scope l.initial.place l.left l.element l.initial.last r w
 
 abbrev pub decreases-items-loop-place : goal.decreases-items-loop-place
-decreases-items-loop-place l = length l.program - l.place
+decreases-items-loop-place l = length l.scope.program.now - l.place
 
-abbrev pub invariant-rounds-loop-after : goal.invariant-rounds-loop-after
-invariant-rounds-loop-after l =
+abbrev pub invariant-rounds-loop-past : goal.invariant-rounds-loop-past
+invariant-rounds-loop-past l =
     (k : ℕ)
-    × Place l.first l.final_index l.step l.index k
-    × ((r : ℕ) (w : Writer)
-    → TracesRounds l.program l.body (tables_in l.tables) l.left l.loops l.indices l.step l.final_index k l.index l.after l.array l.cell (held l.last l.values) r w
-    → TracesRounds l.program l.body (tables_in l.tables) l.left l.loops l.indices l.step l.final_index 65536 l.first 0 l.array l.cell (held l.initial.last l.initial.values) r w)
+    × Place l.range.first l.range.last l.range.step l.index k
+    × ((r : Option ℕ) (w : Option Writer) → TracesRounds l.scope l.range.body l.left l.range.step l.range.last k l.index l.past l.element l.last r w
+    → TracesRounds l.scope l.range.body l.left l.range.step l.range.last 65536 l.range.first None l.element l.initial.last r w)
 
-abbrev pub decreases-rounds-loop-after : goal.decreases-rounds-loop-after
-decreases-rounds-loop-after l = dist l.step l.final_index l.index
+abbrev pub decreases-rounds-loop-past : goal.decreases-rounds-loop-past
+decreases-rounds-loop-past l = dist l.range.step l.range.last l.index

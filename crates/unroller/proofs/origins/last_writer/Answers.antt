@@ -1,9 +1,13 @@
-use Rattle.unroller.specs.Origins.{held}
-use Rattle.unroller.proofs.LastWriters.{found-not, found_next}
+use mathlib.Core.Path.{sym, ◌∙◌}
+use Rattle.unroller.proofs.LastWriters.{found-not, found_lost, found_next}
 use Rattle.unroller.proofs.origins.last_writer.Goals as goal
 
-pub returns-in-Not : goal.returns-in-Not
-returns-in-Not c = let a = c.args in found-not a.program.now c.tables_of-read.result c.tables_of-read.ensures a.array a.cell _ _ c.in-Not.is _
+pub returns-in_err-tables : goal.returns-in_err-tables
+returns-in_err-tables c = found-not c.args.program _ c.tables_of.ensures.says c.tables_of.ensures.holds c.args.element (sym c.ok.ensures.value ∙ c.in_err-tables.was) _
 
-pub returns-in-Next : goal.returns-in-Next
-returns-in-Next c = let a = c.args in found_next a.program.now c.tables_of-read.result c.tables_of-read.ensures a.array a.cell _ c.in-Next.is c.flat-numbers.result c.flat-numbers.ensures.numbers c.flat-numbers.ensures.small c.items.result (held c.items.new.last c.items.new.values) c.items.ensures _ c.origin_by.ensures
+pub returns-in_err-items : goal.returns-in_err-items
+returns-in_err-items c =
+    found_lost c.args.program _ c.tables_of.ensures.says c.tables_of.ensures.holds c.args.element _ _ (sym c.ok.ensures.value ∙ c.in_ok-tables.was) _ c.flat.ensures.numbers c.flat.ensures.small _ _ c.items.ensures c.in_err-items.was _
+
+pub returns : goal.returns
+returns c = found_next c.args.program _ c.tables_of.ensures.says c.tables_of.ensures.holds c.args.element _ _ (sym c.ok.ensures.value ∙ c.in_ok-tables.was) _ c.flat.ensures.numbers c.flat.ensures.small _ _ c.items.ensures

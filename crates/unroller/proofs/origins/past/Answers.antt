@@ -1,17 +1,12 @@
-use Rattle.std.specs.Prelude.{if◌then◌else◌}
-use mathlib.Core.Path.{sym, ap}
-use mathlib.Core.Bool.{Bool}
-use mathlib.Core.List.{◌∷◌, []}
-use Rattle.reader.specs.Entries.{tables_in}
-use Rattle.unroller.specs.Origins.{held}
-use Rattle.unroller.proofs.Traces.{past_is, past_not}
+use mathlib.Core.Path.{sym, ◌∙◌}
+use Rattle.unroller.proofs.Traces.{past_not, past_is}
 use Rattle.unroller.proofs.origins.past.Goals as goal
 
-pub returns-in-Not : goal.returns-in-Not
-returns-in-Not c = let a = c.args in let s = a.program.now in let t = tables_in a.tables.now in past_not s a.at a.source t a.loops a.indices (held a.last.now a.values.now) c.expression_end.result c.expression_end.ensures a.hit _ _ c.in-Not.is _ _
+pub returns-in_err-next : goal.returns-in_err-next
+returns-in_err-next c = past_not _ _ _ _ _ c.expression_end.ensures _ _ _ (sym c.ok.ensures.value ∙ c.in_err-next.was)
 
 pub returns-then-hit : goal.returns-then-hit
-returns-then-hit c = let a = c.args in let s = a.program.now in let t = tables_in a.tables.now in past_is s a.at a.source t a.loops a.indices (held a.last.now a.values.now) c.expression_end.result c.expression_end.ensures a.hit _ c.in-Is.next c.in-Is.is _ (ap (λ (b : Bool). if b then held (a.at ∷ c.in-Is.next ∷ a.loops ∷ []) a.indices else (held a.last.now a.values.now)) (sym c.if-hit.true))
+returns-then-hit c = past_is _ _ _ _ _ c.expression_end.ensures _ _ _ (sym c.ok.ensures.value ∙ c.in_ok-next.was) _ (rw c.if-hit.true)
 
 pub returns-else-hit : goal.returns-else-hit
-returns-else-hit c = let a = c.args in let s = a.program.now in let t = tables_in a.tables.now in past_is s a.at a.source t a.loops a.indices (held a.last.now a.values.now) c.expression_end.result c.expression_end.ensures a.hit _ c.in-Is.next c.in-Is.is _ (ap (λ (b : Bool). if b then held (a.at ∷ c.in-Is.next ∷ a.loops ∷ []) a.indices else (held a.last.now a.values.now)) (sym c.if-hit.false))
+returns-else-hit c = past_is _ _ _ _ _ c.expression_end.ensures _ _ _ (sym c.ok.ensures.value ∙ c.in_ok-next.was) _ (rw c.if-hit.false)

@@ -1,13 +1,12 @@
-use Rattle.reader.specs.Entries.{tables_in}
-use Rattle.unroller.specs.Origins.{held}
+use mathlib.Core.Path.{sym, ◌∙◌}
 use Rattle.unroller.proofs.Traces.{no_array, no_cell, statement-ends}
 use Rattle.unroller.proofs.origins.statement.Goals as goal
 
-pub returns-in-Not : goal.returns-in-Not
-returns-in-Not c = let a = c.args in let s = a.program.now in let t = tables_in a.tables.now in no_array s t a.loops a.indices a.array a.cell a.at (held a.last.now a.values.now) c.array_count.result c.array_count.ensures c.index_at.result c.index_at.ensures _ _ c.in-Not.is _ _
+pub returns-in_err-array : goal.returns-in_err-array
+returns-in_err-array c = no_array _ _ _ _ _ c.array_count.ensures _ c.index_at.ensures _ _ (sym c.ok.ensures.value ∙ c.in_err-array.was)
 
-pub returns-in-No : goal.returns-in-No
-returns-in-No c = let a = c.args in let s = a.program.now in let t = tables_in a.tables.now in no_cell s t a.loops a.indices a.array a.cell a.at (held a.last.now a.values.now) c.array_count.result c.array_count.ensures c.index_at.result c.index_at.ensures _ _ c.in-Is.is c.cell_at.result c.cell_at.ensures _ c.in-No.is _ _
+pub returns-in_err-cell : goal.returns-in_err-cell
+returns-in_err-cell c = no_cell _ _ _ _ _ c.array_count.ensures _ c.index_at.ensures _ _ _ _ (sym c.ok.ensures.value ∙ c.in_ok-array.was) _ c.cell_at.ensures (sym c.ok-2.ensures.value ∙ c.in_err-cell.was)
 
-pub returns-in-Is-cell_at : goal.returns-in-Is-cell_at
-returns-in-Is-cell_at c = let a = c.args in let s = a.program.now in let t = tables_in a.tables.now in statement-ends s t a.loops a.indices a.array a.cell a.at (held a.last.now a.values.now) c.array_count.result c.array_count.ensures c.index_at.result c.index_at.ensures _ _ c.in-Is.is c.cell_at.result c.cell_at.ensures _ _ c.in-Is-cell_at.is c.hits-hit.result c.hits-hit.ensures c.past.result (held c.past.new.last c.past.new.values) c.past.ensures
+pub returns : goal.returns
+returns c = statement-ends _ _ _ _ _ c.array_count.ensures _ c.index_at.ensures _ _ _ _ (sym c.ok.ensures.value ∙ c.in_ok-array.was) _ c.cell_at.ensures _ _ (sym c.ok-2.ensures.value ∙ c.in_ok-cell.was) _ c.eq.ensures c.past.ensures
