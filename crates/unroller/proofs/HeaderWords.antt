@@ -4,8 +4,10 @@ use Prim.Native.Nat.{ℕ, zero, suc, ◌+◌, ◌-◌, ◌*◌, ◌≤◌, ◌<�
 use native.Mathlib.Omega.{arith}
 use mathlib.Core.List.{List, [], ◌∷◌, ◌++◌, append_assoc, map}
 use mathlib.Core.Bool.{true}
-use lib.ListN.{length, get_or, set, replicate, length-append, length-set}
-use lib.Seq.{sets, length-sets, ext_get_or}
+use lib.ListN.{length, get_or, take, drop, set, replicate, length-append, length-set}
+use borrow.Rule.Slice.PartMut.{put_mid}
+use Rattle.std.proofs.lemmas.List.{drop-drop}
+use lib.Seq.{sets, sets-eq, length-sets, ext_get_or}
 use Rattle.model.specs.Test.{every}
 use Rattle.model.specs.Tables.{Array, Tables}
 use Rattle.reader.specs.Entries.{cut, threes, unpacked, packed}
@@ -20,13 +22,9 @@ use Rattle.unroller.proofs.Encode.{padded-length}
 use Rattle.unroller.proofs.Stands.{zero-behind}
 
 -- ---- writing
-pub row_put : (l : List ℕ) (at a b c d e : ℕ) → set (set (set (set (set l at a) (at + 1) b) (at + 2) c) (at + 3) d) (at + 4) e ≡ sets l at (a ∷ b ∷ c ∷ d ∷ e ∷ [])
-row_put l at a b c d e =
-    let p : at + 1 ≡ suc at = omega arith in
-    let q : at + 2 ≡ suc (suc at) = omega arith in
-    let r : at + 3 ≡ suc (suc (suc at)) = omega arith in
-    let s : at + 4 ≡ suc (suc (suc (suc at))) = omega arith in
-    rw (p, q, r, s)
+pub row_put : (l ys row : List ℕ) (at k : ℕ) → ys ≡ row → k ≡ length row → at + length row ≤ length l → put_mid at k l ys ≡ sets l at row
+row_put l ys row at k e f h =
+    rw (e, f) (ap (λ (x : List ℕ). take at l ++ (row ++ x)) (drop-drop (length row) at l) ∙ sym (append_assoc (take at l) row (drop (at + length row) l)) ∙ sym (sets-eq row l at h))
 
 module _ (rs ds es : List ℕ) where
   pub rows_more : (l : List ℕ) (i j k n : ℕ) → 0 < n → j ≡ i + 5 →

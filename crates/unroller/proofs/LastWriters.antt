@@ -79,7 +79,7 @@ module _ (program : Bor (List ℕ)) (r : Result (Packed × ℕ) Refusal) (says :
           end,
           k.to,
           k.seen none refl ∙ ap writer_is (or_none (origin_at program.now (tables_in numbers.now) (last (writes_to (tables_in numbers.now) element.array element.cell) (executeds js [])))
-          ∙ ap (λ (t : Tables). origin_at program.now t (last (writes_to t element.array element.cell) (executeds js []))) y ∙ sym o),
+              ∙ ap (λ (t : Tables). origin_at program.now t (last (writes_to t element.array element.cell) (executeds js []))) y ∙ sym o),
         )
 
     pub found_lost : to ≡ None → (w' : Maybe Writer) → Found program.now element.array element.cell w'

@@ -200,29 +200,29 @@ module _ (scope : Scope) (left less at : ℕ) (element : Element) (w : Maybe Wri
   guard-ran i next d d' q ran k = guard_by (bytes scope) (tables scope) left less scope.loops at fewer q λ g mid js e1 e2 x. k g mid js e1 e2 x (subst (λ (i : Item). run i (tables scope) (around scope) d ≡ ok d') x ran)
 
   module _ (v₀ : Result (ℤ × ℕ) Refusal) (values : Values (bytes scope) (at + 1) scope.loops scope.indices v₀) (r : Maybe ℕ) (w' : Maybe Writer) where
-   pub guard_lost : result_ok v₀ ≡ None → TracesNested scope at 3 left element w r w'
-   unfolding TracesNested Values
-   guard_lost case i next d d' q b8 eight ran = guard-ran i next d d' q ran λ g mid js e1 _ _ _. read_lost v₀ (values g mid e1 (omega arith) eight.long) case
+    pub guard_lost : result_ok v₀ ≡ None → TracesNested scope at 3 left element w r w'
+    unfolding TracesNested Values
+    guard_lost case i next d d' q b8 eight ran = guard-ran i next d d' q ran λ g mid js e1 _ _ _. read_lost v₀ (values g mid e1 (omega arith) eight.long) case
 
-   module _ (u : ℤ) (to : ℕ) (case : result_ok v₀ ≡ Some (u, to)) where
-    pub guard-runs : lt_z u (pos 0) ≡ false → TracesItems scope to less element w r w' → TracesNested scope at 3 left element w r w'
-    unfolding TracesNested TracesItems Values executed body
-    guard-runs z v i next d d' q b8 eight ran = guard-ran i next d d' q ran λ g mid js e1 e2 x r1.
-        let h = read_kept v₀ (values g mid e1 (omega arith) eight.long) case in
-        let l : le_z (pos 0) (value_at g (around scope)) ≡ true = ap (le_z (pos 0)) (sym h.0) ∙ sign_true u z in
-        subst (λ (i : Item). Passed (bytes scope) (tables scope) element.array element.cell next (executed i (around scope)) w r w') (sym x)
-        (subst (λ (b : Bool). Passed (bytes scope) (tables scope) element.array element.cell next (elim b as (λ b. List Executed) [ true ↦ executeds js (around scope) | false ↦ [] ]) w r w') (sym l)
-        (v js next (length (bytes scope)) d d' (ap (body (tables scope) (length (bytes scope)) less scope.loops (bytes scope)) h.1 ∙ e2) (omega arith) eight
-        (subst (λ (b : Bool). ◌≡◌ {A = Ran Done} (elim b as (λ b. Ran Done) [ true ↦ runs js (tables scope) (around scope) d | false ↦ ok d ]) (ok d')) l r1)))
+    module _ (u : ℤ) (to : ℕ) (case : result_ok v₀ ≡ Some (u, to)) where
+      pub guard-runs : lt_z u (pos 0) ≡ false → TracesItems scope to less element w r w' → TracesNested scope at 3 left element w r w'
+      unfolding TracesNested TracesItems Values executed body
+      guard-runs z v i next d d' q b8 eight ran = guard-ran i next d d' q ran λ g mid js e1 e2 x r1.
+          let h = read_kept v₀ (values g mid e1 (omega arith) eight.long) case in
+          let l : le_z (pos 0) (value_at g (around scope)) ≡ true = ap (le_z (pos 0)) (sym h.0) ∙ sign_true u z in
+          subst (λ (i : Item). Passed (bytes scope) (tables scope) element.array element.cell next (executed i (around scope)) w r w') (sym x)
+          (subst (λ (b : Bool). Passed (bytes scope) (tables scope) element.array element.cell next (elim b as (λ b. List Executed) [ true ↦ executeds js (around scope) | false ↦ [] ]) w r w') (sym l)
+          (v js next (length (bytes scope)) d d' (ap (body (tables scope) (length (bytes scope)) less scope.loops (bytes scope)) h.1 ∙ e2) (omega arith) eight
+          (subst (λ (b : Bool). ◌≡◌ {A = Ran Done} (elim b as (λ b. Ran Done) [ true ↦ runs js (tables scope) (around scope) d | false ↦ ok d ]) (ok d')) l r1)))
 
-    pub guard_passes : lt_z u (pos 0) ≡ true → (n₀ : Result ℕ Refusal) → place_says n₀ ≡ ended (items_step (tables scope) less scope.loops (bytes scope) to) → r ≡ result_ok n₀ → w' ≡ w → TracesNested scope at 3 left element w r w'
-    unfolding TracesNested Values executed
-    guard_passes z n₀ ends v kept i next d d' q b8 eight ran = guard-ran i next d d' q ran λ g mid js e1 e2 x _.
-        let h = read_kept v₀ (values g mid e1 (omega arith) eight.long) case in
-        let l : le_z (pos 0) (value_at g (around scope)) ≡ false = ap (le_z (pos 0)) (sym h.0) ∙ sign_false u z in
-        subst (λ (i : Item). Passed (bytes scope) (tables scope) element.array element.cell next (executed i (around scope)) w r w') (sym x)
-        (subst (λ (b : Bool). Passed (bytes scope) (tables scope) element.array element.cell next (elim b as (λ b. List Executed) [ true ↦ executeds js (around scope) | false ↦ [] ]) w r w') (sym l)
-        (subst (λ (w' : Maybe Writer). Passed (bytes scope) (tables scope) element.array element.cell next [] w r w') (sym kept) (passed_none (bytes scope) (tables scope) element.array element.cell r next w (v ∙ place_kept n₀ (told (bytes scope) to (tables scope) less scope.loops n₀ ends (ap (body (tables scope) (length (bytes scope)) less scope.loops (bytes scope)) h.1 ∙ e2) (omega arith))))))
+      pub guard_passes : lt_z u (pos 0) ≡ true → (n₀ : Result ℕ Refusal) → place_says n₀ ≡ ended (items_step (tables scope) less scope.loops (bytes scope) to) → r ≡ result_ok n₀ → w' ≡ w → TracesNested scope at 3 left element w r w'
+      unfolding TracesNested Values executed
+      guard_passes z n₀ ends v kept i next d d' q b8 eight ran = guard-ran i next d d' q ran λ g mid js e1 e2 x _.
+          let h = read_kept v₀ (values g mid e1 (omega arith) eight.long) case in
+          let l : le_z (pos 0) (value_at g (around scope)) ≡ false = ap (le_z (pos 0)) (sym h.0) ∙ sign_false u z in
+          subst (λ (i : Item). Passed (bytes scope) (tables scope) element.array element.cell next (executed i (around scope)) w r w') (sym x)
+          (subst (λ (b : Bool). Passed (bytes scope) (tables scope) element.array element.cell next (elim b as (λ b. List Executed) [ true ↦ executeds js (around scope) | false ↦ [] ]) w r w') (sym l)
+          (subst (λ (w' : Maybe Writer). Passed (bytes scope) (tables scope) element.array element.cell next [] w r w') (sym kept) (passed_none (bytes scope) (tables scope) element.array element.cell r next w (v ∙ place_kept n₀ (told (bytes scope) to (tables scope) less scope.loops n₀ ends (ap (body (tables scope) (length (bytes scope)) less scope.loops (bytes scope)) h.1 ∙ e2) (omega arith))))))
 
 -- ---- loops
 -- ends that lie in 16 signed bits

@@ -140,6 +140,10 @@ module _ (t : Tables) (end : ℕ) (list list₂ flags₂ : List ℕ) (same_lengt
   told_no (ok d) g list₃ e w = absurd w
   told_no (stop a b) g list₃ e w = (ap₂ (λ (x y : ℕ). Unroll.refused left x y) w.0 w.1, e ∙ ap (λ (n : ℕ). replicate n 0) same_length)
 
+-- what a run has done before it begins
+pub unstarted : {p : Progress} → (p.rounds ≡ 0) × ((p.nodes ≡ 0) × (p.updates ≡ 0)) → p ≡ record { rounds = 0; nodes = 0; updates = 0 }
+unstarted h = λ i. record { rounds = h.0 i; nodes = h.1.0 i; updates = h.1.1 i }
+
 -- the scope of a program's own items
 abbrev pub outermost : Bor (List ℕ) → Bor (List ℕ) → Scope
 outermost program numbers = record { program = program; tables = numbers; loops = 0; indices = replicate 8 (pos 0) }

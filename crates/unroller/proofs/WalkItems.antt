@@ -313,10 +313,11 @@ module _ (scope : Scope) (at from left : ℕ) where
     unfolding RunsRound round
     round-full l' f' k js next d e b8 l8 based h = let q = h.rounds in let z = lt-leb (d.rounds + 1) 65536 (omega arith) in rw z (refl, refl)
 
-    pub round-runs : (p' : Progress) (r : Walk) (l' f' : List ℕ) → p.rounds < 65536 → p'.rounds ≡ p.rounds + 1 → p'.nodes ≡ p.nodes → p'.updates ≡ p.updates
-        → RunsItems (inside scope index) from left p' l f r l' f' → RunsRound scope at from left index p l f r l' f'
+    pub round-runs : (p' : Progress) (r : Walk) (l' f' : List ℕ) (z : ℤ) → z ≡ index → p.rounds < 65536 → p'.rounds ≡ p.rounds + 1 → p'.nodes ≡ p.nodes → p'.updates ≡ p.updates
+        → RunsItems (inside scope z) from left p' l f r l' f' → RunsRound scope at from left index p l f r l' f'
     unfolding RunsRound RunsItems round body
-    round-runs p' r l' f' k e1 e2 e3 w js next d e b8 l8 based h =
+    round-runs p' r l' f' own same k e1 e2 e3 w₀ js next d e b8 l8 based h =
+        let w : RunsItems (inside scope index) from left p' l f r l' f' = subst (λ (z : ℤ). RunsItems (inside scope z) from left p' l f r l' f') same w₀ in
         let q = h.rounds in
         let z = le-leb (d.rounds + 1) 65536 (omega arith) in
         let x : take (scope.loops + 1) (set scope.indices scope.loops index) ≡ around scope ++ (index ∷ []) = ap (λ (n : ℕ). take n (set scope.indices scope.loops index)) (add-one scope.loops) ∙ take-suc-set scope.indices scope.loops index (omega arith) in
@@ -338,4 +339,4 @@ module _ (scope : Scope) (at from left : ℕ) where
 
     -- a round of no items
     pub round_empty : (p' : Progress) → get_or (bytes scope) from 0 ≡ 0 → p.rounds < 65536 → p'.rounds ≡ p.rounds + 1 → p'.nodes ≡ p.nodes → p'.updates ≡ p.updates → RunsRound scope at from left index p l f (Ok (from + 1, p')) l f
-    round_empty p' z k e1 e2 e3 = round-runs p' (Ok (from + 1, p')) l f k e1 e2 e3 (items_end (inside scope index) left from p' l f z)
+    round_empty p' z k e1 e2 e3 = round-runs p' (Ok (from + 1, p')) l f index refl k e1 e2 e3 (items_end (inside scope index) left from p' l f z)

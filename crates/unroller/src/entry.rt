@@ -43,13 +43,8 @@ fn run(program: &[u8], list: &mut [u32]) -> Result<usize, UnrollError>
         loops: 0,
         indices: [0; 8],
     };
-    let nothing = Progress {
-        rounds: 0,
-        nodes: 0,
-        updates: 0,
-    };
     let mut flags = [0; MOST_CELLS];
-    match items(&scope, first, 8, nothing, &mut flags, list) {
+    match items(&scope, first, 8, Progress::default(), &mut flags, list) {
         Ok((_, done)) => Ok(done.updates),
         Err(refusal) => {
             clear(list);

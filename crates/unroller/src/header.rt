@@ -1,5 +1,5 @@
 // The header of an update list (docs/LAYOUT.md), written into a cleared list.
-ghost use Rattle.std.specs.Prelude.{◌≡◌, [], ◌∷◌, ◌+◌, ◌≤◌, length};
+ghost use Rattle.std.specs.Prelude.{◌≡◌, ◌+◌, ◌≤◌, length};
 ghost use Rattle.std.proofs.lemmas.List.Edits.{sets};
 ghost use Rattle.reader.specs.Entries.{cut};
 ghost use Rattle.unroller.specs.UnrollAnswers.{rows, head_words};
@@ -17,15 +17,11 @@ fn put_operators(bytes: &[u8; 16], list: &mut [u32])
 }
 
 // The five words of an array.
-fn put_row(list: &mut [u32], at: usize, role: u32, dimensions: u32, a: u32, b: u32, c: u32)
+fn put_row(list: &mut [u32], at: usize, row: [u32; 5])
     requires { at + 5 ≤ length list.old }
-    ensures { list.new ≡ sets list.old at (role ∷ dimensions ∷ a ∷ b ∷ c ∷ []) }
+    ensures { list.new ≡ sets list.old at row }
 {
-    list[at] = role;
-    list[at + 1] = dimensions;
-    list[at + 2] = a;
-    list[at + 3] = b;
-    list[at + 4] = c;
+    list[at..at + 5].copy_from_slice(&row);
 }
 
 fn put_rows(tables: &Tables, list: &mut [u32])
@@ -33,12 +29,14 @@ fn put_rows(tables: &Tables, list: &mut [u32])
     ensures { list.new ≡ sets list.old 18 (rows 16 0 «tables».now.roles «tables».now.dimensions «tables».now.extents) }
 {
     for k in 0..16 {
-        let role = u32::from(tables.roles[k]);
-        let dimensions = u32::from(tables.dimensions[k]);
-        let a = u32::from(tables.extents[3 * k]);
-        let b = u32::from(tables.extents[3 * k + 1]);
-        let c = u32::from(tables.extents[3 * k + 2]);
-        put_row(list, 18 + 5 * k, role, dimensions, a, b, c);
+        let row = [
+            u32::from(tables.roles[k]),
+            u32::from(tables.dimensions[k]),
+            u32::from(tables.extents[3 * k]),
+            u32::from(tables.extents[3 * k + 1]),
+            u32::from(tables.extents[3 * k + 2]),
+        ];
+        put_row(list, 18 + 5 * k, row);
     }
 }
 

@@ -1,7 +1,6 @@
 // Walks the items of a file that was read without a "no": loops and guards here, statements by `statement`. The grammar rules out
 // what the walk would refuse by its questions; they are asked all the same, so that no function leans on the bytes.
 ghost use Rattle.std.specs.Prelude.{◌≡◌, ◌+◌, ◌≤◌, ◌<◌, length, pos};
-ghost use Rattle.unroller.specs.Run.{fits16};
 ghost use Rattle.unroller.specs.Walk.{RunsItem, RunsItems};
 ghost use Rattle.unroller.specs.WalkItems.{Short, Ranges, Moves, RunsNested, RunsRound, RunsRounds};
 

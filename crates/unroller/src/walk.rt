@@ -10,7 +10,7 @@ use reader::tables::FlatTables;
 pub(crate) type Flags = [u8; MOST_CELLS];
 
 // The rounds, nodes and updates of the run so far.
-#[derive(Clone, Copy, Debug, PartialEq, Eq)]
+#[derive(Clone, Copy, Debug, Default, PartialEq, Eq)]
 pub(crate) struct Progress {
     pub(crate) rounds: usize,
     pub(crate) nodes: usize,

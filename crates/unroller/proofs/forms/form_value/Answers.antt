@@ -50,8 +50,8 @@ loop-rest-preserved c =
     let h : k < 8 = rest_few w k rest i.1 i.0 i.2 (λ e. omega arith) in
     let x = get_or (bytes_of 8 w) k (pos 0) in
     let y = get_or a.indices.now k (pos 0) in
-    let fx : SFits w8 c.i8_of.result = sfits_of c.i8_of.type_inv in
-    let ex : c.i8_of.result ≡ x = c.i8_of.ensures ∙ rest_first w k rest i.1 i.0 i.2 h in
+    let fx : SFits w8 c.cast_signed.result = sfits_of c.cast_signed.type_inv in
+    let ex : c.cast_signed.result ≡ x = c.cast_signed.ensures ∙ rest_first w k rest i.1 i.0 i.2 h in
     let fy : SFits w16 y = sfits_of c.form_step-arg-1.given in
     let r : to_z w32 (of_z w32 c.form_step-sum.result) ≡ c.form_step-sum.result = to_z-of_z {w = w32} (sfits_of c.form_step-sum.type_inv) in
     let b : nat_abs c.form_step-sum.result ≤ 32768 + (k + 1) * 4194304 = omega (arith, c.form_step-sum.ensures.bound, i.4) in
@@ -67,8 +67,6 @@ loop-rest-preserved c =
 pub returns : goal.returns
 returns c =
     let i = c.loop-rest.invariant in
-    let a = c.args in record {
-      value = i.3 ∙ ap (λ (z : ℤ). form_sum z (bytes_of 8 c.packed-rest.result) a.indices.now c.loop-rest.k) (to_z-of_z c.ranges.constant)
-          ∙ rest_none _ _ _ i.1 i.0 i.2 a.constant a.coefficients a.indices.now c.packed-rest.ensures (omega arith);
-      bound = omega (arith, i.4, i.0);
-    }
+    let a = c.args in
+    i.3 ∙ ap (λ (z : ℤ). form_sum z (bytes_of 8 c.packed-rest.result) a.indices.now c.loop-rest.k) (to_z-of_z c.ranges.constant)
+    ∙ rest_none _ _ _ i.1 i.0 i.2 a.constant a.coefficients a.indices.now c.packed-rest.ensures (omega arith)

@@ -36,15 +36,15 @@ pub items-returns : goal.items-returns
 items-returns t c = c.loop-place.invariant _ _ _ (items_out _ _ _ _ _ _ _ _ _ c.loop-place-test.false)
 
 pub round-returns-then-before-ge65536 : goal.round-returns-then-before-ge65536
-round-returns-then-before-ge65536 t c = rw c.at.ensures (round-full _ _ _ _ _ _ _ _ _ _ c.if-before-ge65536.true)
+round-returns-then-before-ge65536 t c = rw c.at.ensures (round-full _ _ _ _ _ _ _ _ _ _ (omega (arith, c.if-before-ge65536.true)))
 
 pub round-returns-then-scope-body-eq0 : goal.round-returns-then-scope-body-eq0
-round-returns-then-scope-body-eq0 t c = round_empty _ _ _ _ _ _ _ _ _ c.if-scope-body-eq0.true c.if-before-ge65536.false refl refl refl
+round-returns-then-scope-body-eq0 t c = round_empty _ _ _ _ _ _ _ _ _ c.if-scope-body-eq0.true (omega (arith, c.if-before-ge65536.false)) refl refl refl
 
 pub round-returns : goal.round-returns
 round-returns t c =
-    let e = rw (c.inner.ensures, to_z-of_z {w = w16} {z = c.args.index} (search rules)) at c.items.ensures in
-    round-runs _ _ _ _ _ _ _ _ _ _ _ _ c.if-before-ge65536.false refl refl refl e
+    let e = rw c.inner.ensures at c.items.ensures in
+    round-runs _ _ _ _ _ _ _ _ _ _ _ _ _ (to_z-of_z {w = w16} {z = c.args.index} (search rules)) (omega (arith, c.if-before-ge65536.false)) refl refl refl e
 
 pub rounds-loop-past-init : goal.rounds-loop-past-init
 rounds-loop-past-init t c = let q = c.args.range in rw (turn-wide q.first (search rules) c.from-index.ensures) (65536, place_none q.first q.last q.step (search rules) (search rules), λ r l f w. w)
@@ -95,22 +95,22 @@ pub run_guard-returns-then-left-eq0 : goal.run_guard-returns-then-left-eq0
 run_guard-returns-then-left-eq0 t c = nested_none _ _ _ _ _ _ _ _ _ _ c.if-left-eq0.true
 
 pub run_guard-returns-in_err-value : goal.run_guard-returns-in_err-value
-run_guard-returns-in_err-value t c = rw (handed c.from_residual.ensures) (guard-stop _ _ (c.args.left - 1) _ _ _ _ (let n = c.if-left-eq0.false in omega arith) _ c.value_at.ensures.value _ _ _ c.in_err-value.was)
+run_guard-returns-in_err-value t c = rw (handed c.from_residual.ensures) (guard-stop _ _ (c.args.left - 1) _ _ _ _ (let n = c.if-left-eq0.false in omega arith) _ c.value_at.ensures _ _ _ c.in_err-value.was)
 
 pub run_guard-returns-in_err-next : goal.run_guard-returns-in_err-next
 run_guard-returns-in_err-next t c =
     rw (handed c.from_residual-in_err-next.ensures)
-    (guard_lost _ _ (c.args.left - 1) _ _ _ _ (let n = c.if-left-eq0.false in omega arith) _ c.value_at.ensures.value _ _ c.in_ok-value.was _ c.items_end.ensures _ _ _ c.in_err-next.was)
+    (guard_lost _ _ (c.args.left - 1) _ _ _ _ (let n = c.if-left-eq0.false in omega arith) _ c.value_at.ensures _ _ c.in_ok-value.was _ c.items_end.ensures _ _ _ c.in_err-next.was)
 
 pub run_guard-returns-then-value-lt0 : goal.run_guard-returns-then-value-lt0
 run_guard-returns-then-value-lt0 t c =
     let z = rw (to_z-of_z {w = w32} {z = c.in_ok-value.value} (search rules)) at c.if-value-lt0.true in
-    guard_passes _ _ (c.args.left - 1) _ _ _ _ (let n = c.if-left-eq0.false in omega arith) _ c.value_at.ensures.value _ _ c.in_ok-value.was _ c.items_end.ensures _ z c.in_ok-next.was
+    guard_passes _ _ (c.args.left - 1) _ _ _ _ (let n = c.if-left-eq0.false in omega arith) _ c.value_at.ensures _ _ c.in_ok-value.was _ c.items_end.ensures _ z c.in_ok-next.was
 
 pub run_guard-returns : goal.run_guard-returns
 run_guard-returns t c =
     let z = rw (to_z-of_z {w = w32} {z = c.in_ok-value.value} (search rules)) at c.if-value-lt0.false in
-    guard-runs _ _ (c.args.left - 1) _ _ _ _ (let n = c.if-left-eq0.false in omega arith) _ c.value_at.ensures.value _ _ c.in_ok-value.was _ _ _ z c.items.ensures
+    guard-runs _ _ (c.args.left - 1) _ _ _ _ (let n = c.if-left-eq0.false in omega arith) _ c.value_at.ensures _ _ c.in_ok-value.was _ _ _ z c.items.ensures
 
 pub run_loop-returns-then-left-eq0 : goal.run_loop-returns-then-left-eq0
 run_loop-returns-then-left-eq0 t c = nested_none _ _ _ _ _ _ _ _ _ _ c.if-left-eq0.true
