@@ -1,136 +1,126 @@
 -- The array table: one record, and the state that it fills.
-use Rattle.std.specs.Prelude.{if◌then◌else◌}
-use mathlib.Core.Path.{◌≡◌, refl, sym, ap, ◌∙◌, subst}
-use Prim.Native.Nat.{ℕ, zero, suc, ◌+◌, ◌*◌, ◌<◌, ◌≤◌}
+use Rattle.std.specs.Prelude.{if◌then◌else◌, Option, Some, None}
+use mathlib.Core.Path.{◌≡◌, refl, ap, ◌∙◌}
+use Prim.Native.Nat.{ℕ, zero, suc, ◌+◌, ◌-◌, ◌*◌, ◌<◌, ◌≤◌}
 use mathlib.Core.List.{List, [], ◌∷◌}
 use mathlib.Core.Bool.{Bool, true, false}
+use mathlib.Core.Logic.{◌⊎◌, inl, inr}
 use native.Mathlib.Omega.{arith}
 use native.Mathlib.Nat.{mul-one, mul_assoc, mul-le-mul}
-use lib.ListN.{length, get_or, drop, set, length-set}
-use lib.Seq.{get_or-set_same, get_or-set_other}
+use lib.ListN.{length, get_or, drop, replicate, length-replicate, length-take, length-drop}
 use lib.Dec.{eqb, ltb}
-use borrow.Author.Tests.{eqb-true, eqb-false}
 use Rattle.model.specs.Test.{within}
 use Rattle.model.specs.Tables.{cells}
 use Rattle.unroller.specs.Words.{got, none, and_then, times, zeros}
 use Rattle.unroller.specs.Decode.{extents, array}
 use Rattle.unroller.specs.State.{Filled}
+use borrow.Rule.Slice.PartMut.{put_mid, mid_of}
+use Rattle.std.proofs.Common.{rules}
+use Rattle.std.proofs.lemmas.List.{places}
 use Rattle.unroller.specs.CheckAnswers.{factor_of, Declares}
-use Rattle.unroller.specs.declared.lists.Declared.TheVariants.{Is, Not}
-use Rattle.unroller.proofs.CheckWords.{at_one, at_three, within_true, within_low, within-high}
+use Rattle.unroller.proofs.CheckWords.{at_one, at_three, within_true, within_low, within-high, within-most}
 
--- a run of stores
-pub filled_none : (st : List ℕ) (from v : ℕ) → Filled st from 0 v st
-filled_none st from v = record {
-  same_length = refl;
-  within = λ i a b. absurd (omega arith);
-  below = λ i a. refl;
-  above = λ i a. refl;
-}
-
-pub filled_same : (old : List ℕ) (from n m v : ℕ) (new : List ℕ) → m ≡ n → Filled old from m v new → Filled old from n v new
-filled_same old from n m v new e f = subst (λ (k : ℕ). Filled old from k v new) e f
-
-pub filled_more : (old : List ℕ) (from n v : ℕ) (new : List ℕ) → from + n < length new → Filled old from n v new → Filled old from (n + 1) v (set new (from + n) v)
-filled_more old from n v new h f = record {
-  same_length = length-set new (from + n) v ∙ f.same_length;
-  within = inner;
-  below = λ i a. get_or-set_other new (from + n) i v 0 (λ e. omega arith) ∙ f.below i a;
-  above = λ i a. get_or-set_other new (from + n) i v 0 (λ e. omega arith) ∙ f.above i (omega arith);
-}
-  where
-    inner : (i : ℕ) → from ≤ i → i < from + (n + 1) → get_or (set new (from + n) v) i 0 ≡ v
-    inner i a b = by (eqb i (from + n)) refl
-      where
-        by : (t : Bool) → eqb i (from + n) ≡ t → get_or (set new (from + n) v) i 0 ≡ v
-        by true e = let q = eqb-true i (from + n) e in rw (q, get_or-set_same new (from + n) v 0 h)
-        by false e = let q = eqb-false i (from + n) e in get_or-set_other new (from + n) i v 0 q ∙ f.within i a (below_of i (from + n) (omega arith) q)
-          where
-            below_of : (i k : ℕ) → i ≤ k → (i ≡ k → ⊥) → i < k
-            below_of i k l q = omega arith
+-- a part of a list that is filled
+pub filled_part : (st part : List ℕ) (from n v : ℕ) → from + n ≤ length st → part ≡ replicate (length (mid_of from (from + n - from) st)) v → Filled st from n v (put_mid from (from + n - from) st part)
+filled_part st part from n v h e =
+    let m : length (mid_of from (from + n - from) st) ≡ n = simp (length-take, length-drop) (omega arith) in
+    let q : part ≡ replicate n v = rw m at e in
+    let p : length part ≡ n = ap length q ∙ length-replicate n v in
+    record {
+      same_length = search (rules, places);
+      within = λ i a b. search (rules, places);
+      below = λ i a. search (rules, places);
+      above = λ i a. search (rules, places);
+    }
 
 -- factors
-factor_zero_used : (x : ℕ) → factor_of true x ≡ 0 → within 1 1024 x ≡ false
+factor_bad_extent : (x : ℕ) → None ≡ factor_of true x → within 1 1024 x ≡ false
 unfolding factor_of
-factor_zero_used x h = by (within 1 1024 x) refl h
+factor_bad_extent x e = by (within 1 1024 x) e
   where
-    by : (t : Bool) → within 1 1024 x ≡ t → (if t then x else 0) ≡ 0 → within 1 1024 x ≡ false
-    by true e q = rw q
-    by false e q = e
+    by : (t : Bool) → None ≡ (if t then Some x else None) → t ≡ false
+    by true e = absurd (cc)
+    by false e = refl
 
-factor_some_used : (x : ℕ) → (factor_of true x ≡ 0 → ⊥) → (within 1 1024 x ≡ true) × (factor_of true x ≡ x)
+factor_extent : (x v : ℕ) → Some v ≡ factor_of true x → (within 1 1024 x ≡ true) × (v ≡ x)
 unfolding factor_of
-factor_some_used x h = by (within 1 1024 x) refl h
+factor_extent x v e = by (within 1 1024 x) e
   where
-    by : (t : Bool) → within 1 1024 x ≡ t → ((if t then x else 0) ≡ 0 → ⊥) → (within 1 1024 x ≡ true) × ((if within 1 1024 x then x else 0) ≡ x)
-    by true e q = (e, rw e)
-    by false e q = absurd (q refl)
+    by : (t : Bool) → Some v ≡ (if t then Some x else None) → (t ≡ true) × (v ≡ x)
+    by true e = (refl, cc)
+    by false e = absurd (cc)
 
-factor_zero-free : (x : ℕ) → factor_of false x ≡ 0 → eqb x 0 ≡ false
+factor_bad_blank : (x : ℕ) → None ≡ factor_of false x → eqb x 0 ≡ false
 unfolding factor_of
-factor_zero-free x h = by (eqb x 0) refl h
+factor_bad_blank x e = by (eqb x 0) e
   where
-    by : (t : Bool) → eqb x 0 ≡ t → ◌≡◌ {A = ℕ} (if t then 1 else 0) 0 → eqb x 0 ≡ false
-    by true e q = absurd (omega arith)
-    by false e q = e
+    by : (t : Bool) → ◌≡◌ {A = Option ℕ} None (if t then Some 1 else None) → t ≡ false
+    by true e = absurd (cc)
+    by false e = refl
 
-factor_some_free : (x : ℕ) → (factor_of false x ≡ 0 → ⊥) → (eqb x 0 ≡ true) × (factor_of false x ≡ 1)
+factor_blank : (x v : ℕ) → Some v ≡ factor_of false x → (eqb x 0 ≡ true) × (v ≡ 1)
 unfolding factor_of
-factor_some_free x h = by (eqb x 0) refl h
+factor_blank x v e = by (eqb x 0) e
   where
-    by : (t : Bool) → eqb x 0 ≡ t → (◌≡◌ {A = ℕ} (if t then 1 else 0) 0 → ⊥) → (eqb x 0 ≡ true) × (◌≡◌ {A = ℕ} (if eqb x 0 then 1 else 0) 1)
-    by true e q = (e, rw e)
-    by false e q = absurd (q refl)
+    by : (t : Bool) → ◌≡◌ {A = Option ℕ} (Some v) (if t then Some 1 else None) → (t ≡ true) × (v ≡ 1)
+    by true e = (refl, cc)
+    by false e = absurd (cc)
+
+pub factor-small : (u : Bool) (x v : ℕ) → Some v ≡ factor_of u x → v ≤ 1024
+factor-small true x v e = let (w, f) = factor_extent x v e in let l = within-most 1 1024 x w in omega arith
+factor-small false x v e = let (w, f) = factor_blank x v e in omega arith
 
 -- extents
 module _ (a b c : ℕ) (rest : List ℕ) where
-  ex_first : (d : ℕ) → 1 ≤ d → factor_of true a ≡ 0 → extents d (a ∷ b ∷ c ∷ rest) ≡ none
+  ex_first : (d : ℕ) → 1 ≤ d → None ≡ factor_of true a → extents d (a ∷ b ∷ c ∷ rest) ≡ none
   unfolding extents times
-  ex_first zero h z = absurd (omega arith)
-  ex_first (suc d) h z = rw (factor_zero_used a z)
+  ex_first zero h e = absurd (omega arith)
+  ex_first (suc d) h e = rw (factor_bad_extent a e)
 
-  ex_second : (d : ℕ) → 1 ≤ d → d ≤ 3 → (factor_of true a ≡ 0 → ⊥) → factor_of (ltb 1 d) b ≡ 0 → extents d (a ∷ b ∷ c ∷ rest) ≡ none
-  unfolding extents times zeros
-  ex_second zero h w x z = absurd (omega arith)
-  ex_second (suc zero) h w x z = rw ((factor_some_used a x).0, factor_zero-free b z)
-  ex_second (suc (suc zero)) h w x z = rw ((factor_some_used a x).0, factor_zero_used b z)
-  ex_second (suc (suc (suc zero))) h w x z = rw ((factor_some_used a x).0, factor_zero_used b z)
-  ex_second (suc (suc (suc (suc d)))) h w x z = absurd (omega arith)
+  module _ (x : ℕ) (ex : Some x ≡ factor_of true a) where
+    fx : (within 1 1024 a ≡ true) × (x ≡ a)
+    fx = factor_extent a x ex
 
-  ex_third : (d : ℕ) → 1 ≤ d → d ≤ 3 → (factor_of true a ≡ 0 → ⊥) → (factor_of (ltb 1 d) b ≡ 0 → ⊥) → factor_of (ltb 2 d) c ≡ 0 → extents d (a ∷ b ∷ c ∷ rest) ≡ none
-  unfolding extents times zeros
-  ex_third zero h w x y z = absurd (omega arith)
-  ex_third (suc zero) h w x y z = rw ((factor_some_used a x).0, (factor_some_free b y).0, factor_zero-free c z)
-  ex_third (suc (suc zero)) h w x y z = rw ((factor_some_used a x).0, (factor_some_used b y).0, factor_zero-free c z)
-  ex_third (suc (suc (suc zero))) h w x y z = rw ((factor_some_used a x).0, (factor_some_used b y).0, factor_zero_used c z)
-  ex_third (suc (suc (suc (suc d)))) h w x y z = absurd (omega arith)
+    ex_second : (d : ℕ) → 1 ≤ d → d ≤ 3 → None ≡ factor_of (ltb 1 d) b → extents d (a ∷ b ∷ c ∷ rest) ≡ none
+    unfolding extents times zeros
+    ex_second zero h w e = absurd (omega arith)
+    ex_second (suc zero) h w e = rw (fx.0, factor_bad_blank b e)
+    ex_second (suc (suc zero)) h w e = rw (fx.0, factor_bad_extent b e)
+    ex_second (suc (suc (suc zero))) h w e = rw (fx.0, factor_bad_extent b e)
+    ex_second (suc (suc (suc (suc d)))) h w e = absurd (omega arith)
 
-  ex_ok : (d : ℕ) → 1 ≤ d → d ≤ 3 → (factor_of true a ≡ 0 → ⊥) → (factor_of (ltb 1 d) b ≡ 0 → ⊥) → (factor_of (ltb 2 d) c ≡ 0 → ⊥) →
-      (es : List ℕ) × (extents d (a ∷ b ∷ c ∷ rest) ≡ got es rest) × (cells es ≡ factor_of true a * factor_of (ltb 1 d) b * factor_of (ltb 2 d) c)
-  unfolding extents times zeros
-  ex_ok zero h w x y z = absurd (omega arith)
-  ex_ok (suc zero) h w x y z =
-      let p = factor_some_used a x in
-      let q = factor_some_free b y in
-      let r = factor_some_free c z in
-      (a ∷ [], rw (p.0, q.0, r.0), rw (p.1, q.1, r.1) (omega arith))
-  ex_ok (suc (suc zero)) h w x y z =
-      let p = factor_some_used a x in
-      let q = factor_some_used b y in
-      let r = factor_some_free c z in
-      (a ∷ b ∷ [], rw (p.0, q.0, r.0), rw (p.1, q.1, r.1) (by_one a b))
-    where
-      by_one : (a b : ℕ) → a * (b * 1) ≡ a * b * 1
-      by_one a b = rw (mul-one b, mul-one (a * b))
-  ex_ok (suc (suc (suc zero))) h w x y z =
-      let p = factor_some_used a x in
-      let q = factor_some_used b y in
-      let r = factor_some_used c z in
-      (a ∷ b ∷ c ∷ [], rw (p.0, q.0, r.0), rw (p.1, q.1, r.1) (by_three a b c))
-    where
-      by_three : (a b c : ℕ) → a * (b * (c * 1)) ≡ a * b * c
-      by_three a b c = rw (mul-one c, mul_assoc a b c)
-  ex_ok (suc (suc (suc (suc d)))) h w x y z = absurd (omega arith)
+    module _ (y : ℕ) where
+      ex_third : (d : ℕ) → 1 ≤ d → d ≤ 3 → Some y ≡ factor_of (ltb 1 d) b → None ≡ factor_of (ltb 2 d) c → extents d (a ∷ b ∷ c ∷ rest) ≡ none
+      unfolding extents times zeros
+      ex_third zero h w ey e = absurd (omega arith)
+      ex_third (suc zero) h w ey e = rw (fx.0, (factor_blank b y ey).0, factor_bad_blank c e)
+      ex_third (suc (suc zero)) h w ey e = rw (fx.0, (factor_extent b y ey).0, factor_bad_blank c e)
+      ex_third (suc (suc (suc zero))) h w ey e = rw (fx.0, (factor_extent b y ey).0, factor_bad_extent c e)
+      ex_third (suc (suc (suc (suc d)))) h w ey e = absurd (omega arith)
+
+      ex_ok : (z d : ℕ) → 1 ≤ d → d ≤ 3 → Some y ≡ factor_of (ltb 1 d) b → Some z ≡ factor_of (ltb 2 d) c →
+          (es : List ℕ) × (extents d (a ∷ b ∷ c ∷ rest) ≡ got es rest) × (cells es ≡ x * y * z)
+      unfolding extents times zeros
+      ex_ok z zero h w ey ez = absurd (omega arith)
+      ex_ok z (suc zero) h w ey ez =
+          let q = factor_blank b y ey in
+          let r = factor_blank c z ez in
+          (a ∷ [], rw (fx.0, q.0, r.0), rw (fx.1, q.1, r.1) (omega arith))
+      ex_ok z (suc (suc zero)) h w ey ez =
+          let q = factor_extent b y ey in
+          let r = factor_blank c z ez in
+          (a ∷ b ∷ [], rw (fx.0, q.0, r.0), rw (fx.1, q.1, r.1) (by_one a b))
+        where
+          by_one : (a b : ℕ) → a * (b * 1) ≡ a * b * 1
+          by_one a b = rw (mul-one b, mul-one (a * b))
+      ex_ok z (suc (suc (suc zero))) h w ey ez =
+          let q = factor_extent b y ey in
+          let r = factor_extent c z ez in
+          (a ∷ b ∷ c ∷ [], rw (fx.0, q.0, r.0), rw (fx.1, q.1, r.1) (by_three a b c))
+        where
+          by_three : (a b c : ℕ) → a * (b * (c * 1)) ≡ a * b * c
+          by_three a b c = rw (mul-one c, mul_assoc a b c)
+      ex_ok z (suc (suc (suc (suc d)))) h w ey ez = absurd (omega arith)
 
 module _ (s : List ℕ) (p : ℕ) (h : p + 5 ≤ length s) where
   at_five : drop p s ≡ get_or s p 0 ∷ get_or s (p + 1) 0 ∷ get_or s (p + 2) 0 ∷ get_or s (p + 3) 0 ∷ get_or s (p + 4) 0 ∷ drop (p + 5) s
@@ -144,38 +134,33 @@ module _ (s : List ℕ) (p : ℕ) (h : p + 5 ≤ length s) where
       let e3 : p + 2 + 3 ≡ p + 5 = omega arith in
       x ∙ ap (λ (l : List ℕ). get_or s p 0 ∷ l) (rw e at y ∙ ap (λ (l : List ℕ). get_or s (p + 1) 0 ∷ l) (rw (e1, e2, e3) at z))
 
-  pub dec_role : 3 < get_or s p 0 → Declares s p Not
+  pub dec_bad : (3 < get_or s p 0) ⊎ ((get_or s p 0 ≤ 3 × get_or s (p + 1) 0 < 1) ⊎ (get_or s p 0 ≤ 3 × 1 ≤ get_or s (p + 1) 0 × 3 < get_or s (p + 1) 0)) → Declares s p None
   unfolding array
-  dec_role r = rw (at_five, within-high 0 3 (get_or s p 0) r)
+  dec_bad (inl r) = rw (at_five, within-high 0 3 (get_or s p 0) r)
+  dec_bad (inr (inl (r, d))) = rw (at_five, within_true 0 3 (get_or s p 0) (omega arith) r, within_low 1 3 (get_or s (p + 1) 0) d)
+  dec_bad (inr (inr (r, l, d))) = rw (at_five, within_true 0 3 (get_or s p 0) (omega arith) r, within-high 1 3 (get_or s (p + 1) 0) d)
 
   module _ (r : get_or s p 0 ≤ 3) where
-    pub dec_low : get_or s (p + 1) 0 < 1 → Declares s p Not
-    unfolding array
-    dec_low d = rw (at_five, within_true 0 3 (get_or s p 0) (omega arith) r, within_low 1 3 (get_or s (p + 1) 0) d)
-
-    pub dec_high : 3 < get_or s (p + 1) 0 → Declares s p Not
-    unfolding array
-    dec_high d = rw (at_five, within_true 0 3 (get_or s p 0) (omega arith) r, within-high 1 3 (get_or s (p + 1) 0) d)
-
     module _ (dl : 1 ≤ get_or s (p + 1) 0) (dh : get_or s (p + 1) 0 ≤ 3) where
       here : array (drop p s) ≡ and_then (extents (get_or s (p + 1) 0) (get_or s (p + 2) 0 ∷ get_or s (p + 3) 0 ∷ get_or s (p + 4) 0 ∷ drop (p + 5) s)) (λ es rest. got (record { role = get_or s p 0; extents = es }) rest)
       unfolding array
       here = rw (at_five, within_true 0 3 (get_or s p 0) (omega arith) r, within_true 1 3 (get_or s (p + 1) 0) dl dh)
 
-      module _ (x y z : ℕ) (ex : x ≡ factor_of true (get_or s (p + 2) 0)) (ey : y ≡ factor_of (ltb 1 (get_or s (p + 1) 0)) (get_or s (p + 3) 0)) (ez : z ≡ factor_of (ltb 2 (get_or s (p + 1) 0)) (get_or s (p + 4) 0)) where
-        pub dec_first : x ≡ 0 → Declares s p Not
-        dec_first n = here ∙ rw (ex_first _ _ _ (drop (p + 5) s) (get_or s (p + 1) 0) dl (sym ex ∙ n))
+      pub dec_first : None ≡ factor_of true (get_or s (p + 2) 0) → Declares s p None
+      dec_first e = here ∙ rw (ex_first _ _ _ (drop (p + 5) s) (get_or s (p + 1) 0) dl e)
 
-        pub dec_second : (x ≡ 0 → ⊥) → y ≡ 0 → Declares s p Not
-        dec_second a n = here ∙ rw (ex_second _ _ _ (drop (p + 5) s) (get_or s (p + 1) 0) dl dh (λ q. a (ex ∙ q)) (sym ey ∙ n))
+      module _ (x : ℕ) (ex : Some x ≡ factor_of true (get_or s (p + 2) 0)) where
+        pub dec_second : None ≡ factor_of (ltb 1 (get_or s (p + 1) 0)) (get_or s (p + 3) 0) → Declares s p None
+        dec_second e = here ∙ rw (ex_second _ _ _ (drop (p + 5) s) x ex (get_or s (p + 1) 0) dl dh e)
 
-        pub dec_third : (x ≡ 0 → ⊥) → (y ≡ 0 → ⊥) → z ≡ 0 → Declares s p Not
-        dec_third a b n = here ∙ rw (ex_third _ _ _ (drop (p + 5) s) (get_or s (p + 1) 0) dl dh (λ q. a (ex ∙ q)) (λ q. b (ey ∙ q)) (sym ez ∙ n))
+        module _ (y : ℕ) (ey : Some y ≡ factor_of (ltb 1 (get_or s (p + 1) 0)) (get_or s (p + 3) 0)) where
+          pub dec_third : None ≡ factor_of (ltb 2 (get_or s (p + 1) 0)) (get_or s (p + 4) 0) → Declares s p None
+          dec_third e = here ∙ rw (ex_third _ _ _ (drop (p + 5) s) x ex y (get_or s (p + 1) 0) dl dh ey e)
 
-        pub dec_is : (x ≡ 0 → ⊥) → (y ≡ 0 → ⊥) → (z ≡ 0 → ⊥) → x * y * z ≤ 1073741824 → Declares s p (Is (get_or s p 0) (x * y * z))
-        dec_is a b c l =
-            let o = ex_ok _ _ _ (drop (p + 5) s) (get_or s (p + 1) 0) dl dh (λ q. a (ex ∙ q)) (λ q. b (ey ∙ q)) (λ q. c (ez ∙ q)) in
-            (record { role = get_or s p 0; extents = o.0 }, here ∙ rw o.1, refl, o.2 ∙ (cc), r, l)
+          pub dec_is : (z : ℕ) → Some z ≡ factor_of (ltb 2 (get_or s (p + 1) 0)) (get_or s (p + 4) 0) → x * y * z ≤ 1073741824 → Declares s p (Some (get_or s p 0, x * y * z))
+          dec_is z ez l =
+              let o = ex_ok _ _ _ (drop (p + 5) s) x ex y z (get_or s (p + 1) 0) dl dh ey ez in
+              (record { role = get_or s p 0; extents = o.0 }, here ∙ rw o.1, refl, o.2, r, l)
 
 -- three factors
 pub two_fit : (x y : ℕ) → x ≤ 1024 → y ≤ 1024 → x * y ≤ 1048576

@@ -8,39 +8,16 @@ use native.Mathlib.Omega.{arith}
 use lib.ListN.{get_or, set, length-set, get_or-eq_default}
 use lib.Seq.{get_or-set_same, get_or-set_other}
 use lib.Dec.{eqb, leb, ltb}
-use borrow.Author.Tests.{lt-ltb, le-ltb, lt-leb, le-leb, eq-eqb, ne_eqb, ltb-true, ltb-false, eqb-true, eqb-false}
+use borrow.Author.Tests.{lt-ltb, le-ltb, lt-leb, le-leb, eq-eqb, ltb-true, ltb-false, eqb-true, eqb-false}
 use Rattle.model.specs.Tables.{Array, cells, inside, starts, array_at}
 use Rattle.model.specs.Update.{Update, written}
 use Rattle.unroller.specs.Allowed.{may_write}
 use Rattle.unroller.specs.Decode.{may_read}
 use Rattle.unroller.specs.State.{nowhere, state_at, spot, State, Small, known, readable_in, writable_in}
-use Rattle.unroller.specs.CheckAnswers.{factor_of}
-use Rattle.unroller.proofs.CheckWords.{within_true, within_low, within-high}
 
 -- a store at whatever is the same place
 pub set-place : (l : List ℕ) (i j v : ℕ) → i ≡ j → set l i v ≡ set l j v
 set-place l i j v e = ap (λ (k : ℕ). set l k v) e
-
--- factors
-pub factor_low : (u : Bool) (x : ℕ) → u ≡ true → x < 1 → 0 ≡ factor_of u x
-unfolding factor_of
-factor_low u x e h = rw (e, within_low 1 1024 x h)
-
-pub factor_high : (u : Bool) (x : ℕ) → u ≡ true → 1024 < x → 0 ≡ factor_of u x
-unfolding factor_of
-factor_high u x e h = rw (e, within-high 1 1024 x h)
-
-pub factor_used : (u : Bool) (x r : ℕ) → u ≡ true → 1 ≤ x → x ≤ 1024 → r ≡ x → r ≡ factor_of u x
-unfolding factor_of
-factor_used u x r e h w q = rw (e, within_true 1 1024 x h w) q
-
-pub factor_none : (u : Bool) (x : ℕ) → u ≡ false → x ≡ 0 → 1 ≡ factor_of u x
-unfolding factor_of
-factor_none u x e h = rw (e, h)
-
-pub factor_bad : (u : Bool) (x : ℕ) → u ≡ false → (x ≡ 0 → ⊥) → 0 ≡ factor_of u x
-unfolding factor_of
-factor_bad u x e h = rw (e, ne_eqb _ _ h)
 
 and-false : (t : Bool) → false ≡ (t && false)
 and-false true = refl

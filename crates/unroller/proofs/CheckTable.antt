@@ -3,19 +3,22 @@ use mathlib.Core.Path.{◌≡◌, refl, sym, ap, ◌∙◌, subst}
 use Prim.Native.Nat.{ℕ, zero, suc, ◌+◌, ◌-◌, ◌*◌, ◌<◌, ◌≤◌}
 use mathlib.Core.List.{List, [], ◌∷◌, ◌++◌, append-nil, append_assoc}
 use mathlib.Core.Bool.{Bool, true, false, ◌||◌, not}
+use mathlib.Core.Logic.{◌⊎◌, inl, inr}
+use Rattle.std.specs.Prelude.{Some}
+use Rattle.std.specs.List.{list_all}
+use Rattle.model.specs.Test.{within}
 use native.Mathlib.Omega.{arith}
 use lib.ListN.{length, get_or, drop, take, length-append, get_or-eq_default, get_or-append}
 use lib.Seq.{get_or-append_seam}
 use lib.Dec.{eqb, ltb}
-use borrow.Author.Tests.{lt-ltb, le-ltb, lt-leb, le-leb, ltb-true, ltb-false, eqb-true, eqb-false}
-use Rattle.model.specs.Tables.{Array, cells, array_at}
-use Rattle.unroller.specs.Words.{Out, got, none, and_then, zeros}
+use borrow.Author.Tests.{ne_eqb, lt-ltb, le-ltb, lt-leb, le-leb, ltb-true, ltb-false, eqb-true, eqb-false}
+use Rattle.model.specs.Tables.{Array, cells, array_at, operator_byte}
+use Rattle.unroller.specs.Words.{Out, got, none, and_then, zeros, all_zero}
 use Rattle.unroller.specs.Decode.{operators, array, arrays, tables}
 use Rattle.unroller.specs.State.{nowhere, state_of, state_at, spot, State, Small, Filled}
-use Rattle.unroller.specs.CheckAnswers.{Declares, Arrays, Operators, Zeros, Header}
-use Rattle.unroller.specs.declared.lists.Declared.{Declared}
-use Rattle.unroller.specs.declared.lists.Declared.TheVariants.{Is, Not}
-use Rattle.unroller.proofs.CheckWords.{at_one, within_true, within_low, within-high}
+use Rattle.unroller.specs.CheckAnswers.{Declares, Arrays, Header}
+use Rattle.unroller.proofs.CheckWords.{at_one, operators_true, operators_false, within_true, within_low, within-high}
+use Rattle.unroller.proofs.CheckZeros.{zeros_true, zeros_false}
 
 -- an element past a list's last, with one more element
 module _ (xs : List Array) (x : Array) where
@@ -169,26 +172,30 @@ module _ (s : List ℕ) (m : ℕ) where
         let z : m - k ≡ 0 = omega arith in
         (f.xs, f.whole ∙ rw (arrays_none (drop (18 + 5 * k) s) (m - k) sum local z, append-nil f.xs, e), f.small, f.state)
 
-    module _ (d : Declared) (g : Declares s (18 + 5 * k) d) (h : k < m) where
-      pub sofar_stop : d ≡ Not → arrays m false 0 (drop 18 s) ≡ none
-      sofar_stop e =
-          let q : array (drop (18 + 5 * k) s) ≡ none = subst (λ (d : Declared). Declares s (18 + 5 * k) d) e g in
-          f.whole ∙ rw (arrays-stop (drop (18 + 5 * k) s) (m - k) sum local (omega arith) q)
+    module _ (h : k < m) where
+      pub sofar_stop : array (drop (18 + 5 * k) s) ≡ none → arrays m false 0 (drop 18 s) ≡ none
+      sofar_stop q = f.whole ∙ rw (arrays-stop (drop (18 + 5 * k) s) (m - k) sum local (omega arith) q)
 
-      module _ (role n : ℕ) (e : d ≡ Is role n) where
-        is : Declares s (18 + 5 * k) (Is role n)
-        is = subst (λ (d : Declared). Declares s (18 + 5 * k) d) e g
+      module _ (role n : ℕ) (d : Declares s (18 + 5 * k) (Some (role, n))) where
+        is : Declares s (18 + 5 * k) (Some (role, n))
+        is = d
 
-        pub sofar_order : (not local || eqb role 3) ≡ false → arrays m false 0 (drop 18 s) ≡ none
-        sofar_order o =
+        pub sofar_order : local ≡ true → (role ≡ 3 → ⊥) → arrays m false 0 (drop 18 s) ≡ none
+        sofar_order e o =
             let q = is in
-            f.whole ∙ rw (arrays-order (drop (18 + 5 * k) s) (m - k) sum local (omega arith) q.0 (drop (18 + 5 * k + 5) s) q.1 (rw q.2 o))
+            f.whole ∙ rw (arrays-order (drop (18 + 5 * k) s) (m - k) sum local (omega arith) q.0 (drop (18 + 5 * k + 5) s) q.1 (out _ q.2 local e))
+          where
+            out : (x : ℕ) → x ≡ role → (t : Bool) → t ≡ true → (not t || eqb x 3) ≡ false
+            out x p t q = rw (q, p, ne_eqb role 3 o)
 
-        module _ (o : (not local || eqb role 3) ≡ true) where
+        module _ (o : (local ≡ true × role ≡ 3) ⊎ (local ≡ false)) where
+          last : (x : ℕ) → x ≡ role → (not local || eqb x 3) ≡ true
+          last x e = elim o [ inl h ↦ rw (h.0, e, h.1) | inr h ↦ rw h ]
+
           pub sofar_full : 2048 < sum + n → arrays m false 0 (drop 18 s) ≡ none
           sofar_full l =
               let q = is in
-              f.whole ∙ rw (arrays-full (drop (18 + 5 * k) s) (m - k) sum local (omega arith) q.0 (drop (18 + 5 * k + 5) s) q.1 (rw q.2 o) (rw q.3 l))
+              f.whole ∙ rw (arrays-full (drop (18 + 5 * k) s) (m - k) sum local (omega arith) q.0 (drop (18 + 5 * k + 5) s) q.1 (last _ q.2) (rw q.3 l))
 
           pub sofar_more : (new : List ℕ) (v : ℕ) → sum + n ≤ 2048 → m ≤ 16 → Filled st (2048 * k) n v new → v ≡ state_of role false →
               Sofar s m new (k + 1) (eqb role 3) (sum + n)
@@ -196,7 +203,7 @@ module _ (s : List ℕ) (m : ℕ) where
               let q = is in
               let x = q.0 in
               let j : 18 + 5 * k + 5 ≡ 18 + 5 * (k + 1) = omega arith in
-              let step = arrays-step (drop (18 + 5 * k) s) (m - k) sum local (omega arith) x (drop (18 + 5 * k + 5) s) q.1 (rw q.2 o) (m - (k + 1)) (omega arith) (rw q.3 l) in
+              let step = arrays-step (drop (18 + 5 * k) s) (m - k) sum local (omega arith) x (drop (18 + 5 * k + 5) s) q.1 (last _ q.2) (m - (k + 1)) (omega arith) (rw q.3 l) in
               let step2 = rw (q.2, q.3, j) at step in
               record {
                 xs = f.xs ++ (x ∷ []);
@@ -215,58 +222,63 @@ module _ (s : List ℕ) (n m : ℕ) (h : 98 ≤ length s) (en : n ≡ get_or s 0
   second : drop 17 s ≡ m ∷ drop 18 s
   second = rw em (at_one s 17 (omega arith))
 
-  pub head-count : 16 < n → tables s ≡ none
+  head-count : 16 < n → tables s ≡ none
   unfolding tables
   head-count l = start ∙ rw (within-high 0 16 n l)
 
+  pub same_operators : (k : ℕ) (r t : Bool) → k ≡ n → r ≡ list_all operator_byte (take k (drop 1 s)) → r ≡ t → list_all operator_byte (take n (drop 1 s)) ≡ t
+  same_operators k r t e f g = rw e at (sym f ∙ g)
+
   module _ (l : n ≤ 16) where
-    pub head-operators : (r : Bool) → r ≡ false → Operators s 1 n r → tables s ≡ none
+    pub head-operators : list_all operator_byte (take n (drop 1 s)) ≡ false → tables s ≡ none
     unfolding tables
-    head-operators false e a = start ∙ rw (within_true 0 16 n (omega arith) l, a)
-    head-operators true e a = absurd (let z : ◌≡◌ {A = ℕ} 0 1 = cc in omega arith)
+    head-operators e = start ∙ rw (within_true 0 16 n (omega arith) l, operators_false s 1 n (omega arith) e)
 
-    module _ (a : operators n (drop 1 s) ≡ got (take n (drop 1 s)) (drop (1 + n) s)) where
-      pub head_blank : (r : Bool) → r ≡ false → Zeros s (1 + n) (16 - n) r → tables s ≡ none
+    module _ (a : list_all operator_byte (take n (drop 1 s)) ≡ true) where
+      blank : 16 - n ≡ 17 - (1 + n)
+      blank = omega arith
+
+      known : operators n (drop 1 s) ≡ got (take n (drop 1 s)) (drop (1 + n) s)
+      known = operators_true s 1 n (omega arith) a
+
+      pub head_blank : all_zero (take (17 - (1 + n)) (drop (1 + n) s)) ≡ false → tables s ≡ none
       unfolding tables
-      head_blank false e z = start ∙ rw (within_true 0 16 n (omega arith) l, a, z)
-      head_blank true e z = absurd (let z : ◌≡◌ {A = ℕ} 0 1 = cc in omega arith)
+      head_blank e = start ∙ rw (within_true 0 16 n (omega arith) l, known, blank, zeros_false s (1 + n) (17 - (1 + n)) (omega arith) e)
 
-      module _ (z : zeros (16 - n) (drop (1 + n) s) ≡ got 0 (drop (1 + n + (16 - n)) s)) where
+      module _ (z : all_zero (take (17 - (1 + n)) (drop (1 + n) s)) ≡ true) where
         z17 : zeros (16 - n) (drop (1 + n) s) ≡ got 0 (m ∷ drop 18 s)
-        z17 = let e : 1 + n + (16 - n) ≡ 17 = omega arith in z ∙ rw (e, second)
+        z17 = let e : 1 + n + (17 - (1 + n)) ≡ 17 = omega arith in rw blank (zeros_true s (1 + n) (17 - (1 + n)) (omega arith) z ∙ rw (e, second))
 
-        pub head-low : m < 1 → tables s ≡ none
+        head-arrays_count : within 1 16 m ≡ false → tables s ≡ none
         unfolding tables
-        head-low k = start ∙ rw (within_true 0 16 n (omega arith) l, a, z17, within_low 1 16 m k)
-
-        pub head-high : 16 < m → tables s ≡ none
-        unfolding tables
-        head-high k = start ∙ rw (within_true 0 16 n (omega arith) l, a, z17, within-high 1 16 m k)
+        head-arrays_count e = start ∙ rw (within_true 0 16 n (omega arith) l, known, z17, e)
 
         module _ (ml : 1 ≤ m) (mh : m ≤ 16) where
-          pub head-arrays : (st : List ℕ) (r : Bool) → r ≡ false → Arrays s m st r → tables s ≡ none
-          unfolding tables
-          head-arrays st false e x = start ∙ rw (within_true 0 16 n (omega arith) l, a, z17, within_true 1 16 m ml mh, x)
-          head-arrays st true e x = absurd (let z : ◌≡◌ {A = ℕ} 0 1 = cc in omega arith)
+          rest : 5 * (16 - m) ≡ 98 - (18 + 5 * m)
+          rest = omega arith
 
-          pub head_all : (st : List ℕ) (x : Arrays s m st true) (r : Bool) → Zeros s (18 + 5 * m) (5 * (16 - m)) r → Header s st r
+          pub head-arrays : arrays m false 0 (drop 18 s) ≡ none → tables s ≡ none
+          unfolding tables
+          head-arrays x = start ∙ rw (within_true 0 16 n (omega arith) l, known, z17, within_true 1 16 m ml mh, x)
+
+          pub head_all : (st : List ℕ) (x : Arrays s m st true) (r : Bool) → r ≡ all_zero (take (98 - (18 + 5 * m)) (drop (18 + 5 * m) s)) → Header s st r
           unfolding tables
           head_all st (xs, e, sm, state) true b =
-              let j : 18 + 5 * m + 5 * (16 - m) ≡ 98 = omega arith in
-              (record { operators = take n (drop 1 s); arrays = xs }, start ∙ rw (within_true 0 16 n (omega arith) l, a, z17, within_true 1 16 m ml mh, e, b, j), rw en at l, rw en, sm, state)
-          head_all st (xs, e, sm, state) false b = start ∙ rw (within_true 0 16 n (omega arith) l, a, z17, within_true 1 16 m ml mh, e, b)
+              let j : 18 + 5 * m + (98 - (18 + 5 * m)) ≡ 98 = omega arith in
+              let z = zeros_true s (18 + 5 * m) (98 - (18 + 5 * m)) (omega arith) (sym b) in
+              (record { operators = take n (drop 1 s); arrays = xs }, start ∙ rw (within_true 0 16 n (omega arith) l, known, z17, within_true 1 16 m ml mh, e, rest, z, j), rw en at l, rw en, sm, state)
+          head_all st (xs, e, sm, state) false b =
+              start ∙ rw (within_true 0 16 n (omega arith) l, known, z17, within_true 1 16 m ml mh, e, rest, zeros_false s (18 + 5 * m) (98 - (18 + 5 * m)) (omega arith) (sym b))
 
-pub operators_true : (s : List ℕ) (p n : ℕ) (r : Bool) → r ≡ true → Operators s p n r → operators n (drop p s) ≡ got (take n (drop p s)) (drop (p + n) s)
-operators_true s p n true e a = a
-operators_true s p n false e a = absurd (let z : ◌≡◌ {A = ℕ} 0 1 = cc in omega arith)
+    head-second : within 1 16 m ≡ false → tables s ≡ none
+    head-second w = by (list_all operator_byte (take n (drop 1 s))) refl (all_zero (take (17 - (1 + n)) (drop (1 + n) s))) refl
+      where
+        by : (t : Bool) → list_all operator_byte (take n (drop 1 s)) ≡ t → (u : Bool) → all_zero (take (17 - (1 + n)) (drop (1 + n) s)) ≡ u → tables s ≡ none
+        by false e u f = head-operators e
+        by true e false f = head_blank e f
+        by true e true f = head-arrays_count e f w
 
-pub zeros_true : (s : List ℕ) (p n : ℕ) (r : Bool) → r ≡ true → Zeros s p n r → zeros n (drop p s) ≡ got 0 (drop (p + n) s)
-zeros_true s p n true e a = a
-zeros_true s p n false e a = absurd (let z : ◌≡◌ {A = ℕ} 0 1 = cc in omega arith)
-
-pub arrays_true : (s : List ℕ) (m : ℕ) (st : List ℕ) (r : Bool) → r ≡ true → Arrays s m st r → Arrays s m st true
-arrays_true s m st true e a = a
-arrays_true s m st false e a = absurd (let z : ◌≡◌ {A = ℕ} 0 1 = cc in omega arith)
-
-pub declared-fits : (s : List ℕ) (p : ℕ) (d : Declared) → Declares s p d → (role n : ℕ) → d ≡ Is role n → n ≤ 1073741824
-declared-fits s p d g role n e = (subst (λ (d : Declared). Declares s p d) e g).5
+  pub head-bounds : (16 < n) ⊎ ((n ≤ 16 × m < 1) ⊎ (n ≤ 16 × 1 ≤ m × 16 < m)) → tables s ≡ none
+  head-bounds (inl l) = head-count l
+  head-bounds (inr (inl (l, k))) = head-second l (within_low 1 16 m k)
+  head-bounds (inr (inr (l, j, k))) = head-second l (within-high 1 16 m k)

@@ -1,13 +1,13 @@
 -- An expression, node by node, and its arguments as a loop takes them.
 use Rattle.std.specs.Prelude.{if◌then◌else◌}
-use mathlib.Core.Path.{◌≡◌, refl, ap, ◌∙◌, subst}
+use mathlib.Core.Path.{◌≡◌, refl, ◌∙◌}
 use Prim.Native.Nat.{ℕ, zero, suc, ◌+◌, ◌<◌, ◌≤◌}
 use mathlib.Core.List.{List, [], ◌∷◌}
 use mathlib.Core.Bool.{Bool, true, false}
 use native.Mathlib.Omega.{arith}
 use lib.ListN.{length, get_or, drop}
 use lib.Dec.{eqb}
-use borrow.Author.Tests.{lt-ltb, le-ltb, ne_eqb}
+use borrow.Author.Tests.{lt-ltb, le-ltb, ne_eqb, eqb-true, eqb-false}
 use mir.Syntax.{w32}
 use mir.Val.{to_z}
 use Rattle.model.specs.Tables.{arity_at}
@@ -31,15 +31,22 @@ module _ (reads : ℕ → ℕ → Bool) (x y : ℕ) where
   leaf_read code e true h = (cell x y, refl, λ ops f rest. rw (e, ← h))
   leaf_read code e false h = λ ops f rest. rw (e, ← h)
 
-  pub leaf_number : (code : ℕ) → code ≡ 18 → x < 4294967296 → (r : Bool) → r ≡ eqb y 0 → Leaf reads code x y r
+  leaf_number : (code : ℕ) → code ≡ 18 → x < 4294967296 → (r : Bool) → r ≡ eqb y 0 → Leaf reads code x y r
   unfolding node size
   leaf_number code e b true h = (number (to_z w32 x), refl, λ ops f rest. rw (e, lt-ltb _ _ b, ← h))
   leaf_number code e b false h = λ ops f rest. rw (e, lt-ltb _ _ b, ← h)
 
-  pub leaf_constant : (code : ℕ) → code ≡ 19 → x < 4294967296 → (r : Bool) → r ≡ eqb y 0 → Leaf reads code x y r
+  leaf_constant : (code : ℕ) → code ≡ 19 → x < 4294967296 → (r : Bool) → r ≡ eqb y 0 → Leaf reads code x y r
   unfolding node size
   leaf_constant code e b true h = (constant x, refl, λ ops f rest. rw (e, lt-ltb _ _ b, ← h))
   leaf_constant code e b false h = λ ops f rest. rw (e, lt-ltb _ _ b, ← h)
+
+  pub leaf_value : (code : ℕ) → 18 ≤ code → code ≤ 19 → x < 4294967296 → (r : Bool) → r ≡ eqb y 0 → Leaf reads code x y r
+  leaf_value code h w b r e = by (eqb code 18) refl
+    where
+      by : (t : Bool) → eqb code 18 ≡ t → Leaf reads code x y r
+      by true f = leaf_number code (eqb-true code 18 f) b r e
+      by false f = let g : code ≡ 18 → ⊥ = eqb-false code 18 f in leaf_constant code (omega arith) b r e
 
   pub leaf_none : (code : ℕ) → (code ≡ 16 → ⊥) → (code ≡ 17 → ⊥) → (code ≡ 18 → ⊥) → (code ≡ 19 → ⊥) → Leaf reads code x y false
   unfolding node
@@ -96,17 +103,11 @@ module _ (ops : List ℕ) (reads : ℕ → ℕ → Bool) (s : List ℕ) where
   operator_unknown at zero o h = refl
   operator_unknown at (suc left) o h = rw (le-ltb _ _ h)
 
-  operator_do : (at left m o : ℕ) (r : Answer) → left ≡ suc m → o < length ops →
-      ReadsAll s at (times nil cons (expr ops reads m) (arity_at ops o) (drop at s)) r → Follows s at (operates ops reads left o (drop at s)) r
-  unfolding operates applied expr size
-  operator_do at left m o (Got next) e h (ts, q, w) = (operator o ts, rw (e, lt-ltb _ _ h, q), omega arith)
-  operator_do at left m o No e h q = rw (e, lt-ltb _ _ h, q)
-
-  pub operator_some : (at left m k o n : ℕ) (r : Answer) → left ≡ suc m → k ≡ o → k < length ops → n ≡ arity_at ops k →
+  pub operator_some : (at left m o n : ℕ) (r : Answer) → left ≡ suc m → o < length ops → n ≡ arity_at ops o →
       ReadsAll s at (times nil cons (expr ops reads m) n (drop at s)) r → Follows s at (operates ops reads left o (drop at s)) r
-  operator_some at left m k o n r e f h w q =
-      operator_do at left m o r e (subst (λ (i : ℕ). i < length ops) f h)
-      (subst (λ (j : ℕ). ReadsAll s at (times nil cons (expr ops reads m) j (drop at s)) r) (w ∙ ap (arity_at ops) f) q)
+  unfolding operates applied expr size
+  operator_some at left m o n (Got next) e h g a = let (ts, q, w) = rw g at a in (operator o ts, rw (e, lt-ltb _ _ h, q), omega arith)
+  operator_some at left m o n No e h g a = let q = rw g at a in rw (e, lt-ltb _ _ h, q)
 
   -- arguments
   module _ (left : ℕ) where

@@ -3,18 +3,17 @@ use mathlib.Core.Path.{◌≡◌, refl, sym, ap, ◌∙◌, subst}
 use Prim.Native.Nat.{ℕ, zero, suc, ◌+◌, ◌-◌, ◌*◌, ◌/◌, ◌<◌, ◌≤◌}
 use mathlib.Core.List.{List, [], ◌∷◌, ◌++◌}
 use mathlib.Core.Bool.{Bool, true, false}
+use Rattle.std.specs.Prelude.{Some, None}
 use native.Mathlib.Omega.{arith}
-use lib.ListN.{length, get_or, drop, length-set}
+use lib.ListN.{length, get_or, drop, set, length-set}
 use borrow.Author.Tests.{lt-leb, le-leb, ne_eqb}
 use Rattle.model.specs.Tables.{Tables}
 use Rattle.model.specs.Update.{Tree, size, nodes, Update}
 use Rattle.unroller.specs.Words.{Out, got, none, is_got, all_zero}
 use Rattle.unroller.specs.Allowed.{may_write}
 use Rattle.unroller.specs.Decode.{may_read, expr, update, updates}
-use Rattle.unroller.specs.State.{State, Small, readable_in, writable_in, spot}
+use Rattle.unroller.specs.State.{State, Small, readable_in, writable_in}
 use Rattle.unroller.specs.CheckAnswers.{answer_of, Reads, Updates, Follow}
-use Rattle.unroller.specs.declared.lists.Moved.{Moved}
-use Rattle.unroller.specs.declared.lists.Moved.TheVariants.{To, Stop}
 use Rattle.unroller.proofs.Parts.{nodes_snoc}
 use Rattle.unroller.proofs.CheckWords.{at_three, few}
 use Rattle.unroller.proofs.CheckTrees.{answer-got}
@@ -104,18 +103,18 @@ module _ (s ops st₀ st : List ℕ) (at left count : ℕ) (g : Going s ops st�
   pub going_end : all_zero (drop at s) ≡ true → Follow s ops st₀ true
   going_end z t a m x = sym (ap is_got (sym (g.same t a m x).1) ∙ ups_end t g.before (drop at s) left z)
 
-  pub going_full : all_zero (drop at s) ≡ false → left ≡ 0 → Follow s ops st₀ false
-  going_full z e t a m x = sym (ap is_got (sym (g.same t a m x).1 ∙ ups_full t g.before (drop at s) left z e))
+  -- behind the last update that there may be
+  pub going_last : left ≡ 0 → (r : Bool) → r ≡ all_zero (drop at s) → Follow s ops st₀ r
+  going_last e true z = going_end (sym z)
+  going_last e false z = λ t a m x. sym (ap is_got (sym (g.same t a m x).1 ∙ ups_full t g.before (drop at s) left (sym z) e))
 
-  pub going_stop : (st' : List ℕ) (r : Moved) → all_zero (drop at s) ≡ false → r ≡ Stop → Updates s at ops st count st' r → Follow s ops st₀ false
-  going_stop st' r z e q t a m x =
-      let p : update ops (writable_in st) (readable_in st) count (drop at s) ≡ none = subst (λ (r : Moved). Updates s at ops st count st' r) e q in
+  pub going_stop : (st' : List ℕ) → all_zero (drop at s) ≡ false → Updates s at ops st count st' None → Follow s ops st₀ false
+  going_stop st' z p t a m x =
       sym (ap is_got (sym (g.same t a m x).1 ∙ ups_stop t g.before (drop at s) z _ (same_update t ops g.before st count (drop at s) a m (g.same t a m x).0 g.counted) left p))
 
-  pub going_step : (st' : List ℕ) (r : Moved) (next n m : ℕ) → all_zero (drop at s) ≡ false → r ≡ To next n → Updates s at ops st count st' r → left ≡ suc m →
+  pub going_step : (st' : List ℕ) (next n m : ℕ) → all_zero (drop at s) ≡ false → Updates s at ops st count st' (Some (next, n)) → left ≡ suc m →
       Going s ops st₀ st' next m n
-  going_step st' r next n m z e q l =
-      let p = subst (λ (r : Moved). Updates s at ops st count st' r) e q in
+  going_step st' next n m z p l =
       let u = p.0 in
       record {
         before = g.before ++ (u ∷ []);
@@ -127,9 +126,5 @@ module _ (s ops st₀ st : List ℕ) (at left count : ℕ) (g : Going s ops st�
             );
       }
 
-module _ (s : List ℕ) (at : ℕ) (ops st : List ℕ) (count : ℕ) (st' : List ℕ) (r : Moved) {next n : ℕ} (e : r ≡ To next n) (q : Updates s at ops st count st' r) where
-  pub moved_nodes : n ≤ 8192
-  moved_nodes = (subst (λ (r : Moved). Updates s at ops st count st' r) e q).3
-
-  pub moved_length : length st ≡ 32768 → length st' ≡ 32768
-  moved_length l = let p = subst (λ (r : Moved). Updates s at ops st count st' r) e q in ap length p.5 ∙ length-set st (spot p.0.array p.0.target) 2 ∙ l
+pub marked_length : (st : List ℕ) (k : ℕ) (st' : List ℕ) → st' ≡ set st k 2 → length st ≡ 32768 → length st' ≡ 32768
+marked_length st k st' e l = ap length e ∙ length-set st k 2 ∙ l

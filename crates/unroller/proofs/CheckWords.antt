@@ -1,19 +1,20 @@
 -- Words at a place, and readers there.
 use mathlib.Core.Path.{◌≡◌, refl, ap, ◌∙◌}
-use Prim.Native.Nat.{ℕ, zero, suc, ◌+◌, ◌-◌, ◌<◌, ◌≤◌}
+use Prim.Native.Nat.{ℕ, zero, suc, ◌+◌, ◌<◌, ◌≤◌}
 use mathlib.Core.List.{List, [], ◌∷◌}
 use mathlib.Core.Bool.{Bool, true, false, ◌&&◌}
 use native.Mathlib.Omega.{arith}
 use native.Mathlib.Numerals.{add-one}
-use lib.ListN.{length, get_or, drop, drop_of_length-le, length-drop}
-use lib.Seq.{drop-cons}
+use lib.ListN.{length, get_or, take, drop, drop_of_length-le, length-drop}
+use lib.Seq.{drop-cons, drop-drop}
 use lib.Dec.{leb}
-use borrow.Author.Tests.{lt-leb, le-leb, ne_eqb}
+use borrow.Author.Tests.{lt-leb, le-leb, leb-true}
+use Rattle.std.specs.Prelude.{if◌then◌else◌}
+use Rattle.std.specs.List.{list_all}
 use Rattle.model.specs.Test.{within}
 use Rattle.model.specs.Tables.{operator_byte}
-use Rattle.unroller.specs.Words.{times, zeros, all_zero}
+use Rattle.unroller.specs.Words.{got, none, and_then, ask, times}
 use Rattle.unroller.specs.Decode.{operators}
-use Rattle.unroller.specs.CheckAnswers.{Zeros, Operators}
 
 module _ (s : List ℕ) where
   pub at_one : (p : ℕ) → p < length s → drop p s ≡ get_or s p 0 ∷ drop (p + 1) s
@@ -35,37 +36,31 @@ module _ (s : List ℕ) where
   pub few : (p : ℕ) → length s < p + 3 → length (drop p s) < 3
   few p h = rw length-drop (omega arith)
 
-  -- zeros, as a loop takes them
-  pub zeros_end : (p n : ℕ) → n ≡ 0 → Zeros s p n true
-  unfolding zeros
-  zeros_end p n h = let e : p + 0 ≡ p = omega arith in rw (h, e)
+-- n words that are operators
+operators_is : (n : ℕ) (w : List ℕ) → n ≤ length w → operators n w ≡ (if list_all operator_byte (take n w) then got (take n w) (drop n w) else none)
+unfolding operators times
+operators_is zero w l = refl
+operators_is (suc n) [] l = absurd (omega arith)
+operators_is (suc n) (x ∷ w) l = by (operator_byte x) (operators_is n w (omega arith))
+  where
+    by : (t : Bool) → operators n w ≡ (if list_all operator_byte (take n w) then got (take n w) (drop n w) else none)
+        → and_then (and_then (ask t w) (λ _ v. got x v)) (λ a v. and_then (operators n v) (λ l r. got (a ∷ l) r)) ≡ (if t && list_all operator_byte (take n w) then got (x ∷ take n w) (drop n w) else none)
+    by true e = rw e (rest (list_all operator_byte (take n w)))
+      where
+        rest : (t : Bool) → and_then (if t then got (take n w) (drop n w) else none) (λ l r. got (x ∷ l) r) ≡ (if t then got (x ∷ take n w) (drop n w) else none)
+        rest true = refl
+        rest false = refl
+    by false e = refl
 
-  pub zeros-stop : (p n : ℕ) → p < length s → 0 < n → (get_or s p 0 ≡ 0 → ⊥) → Zeros s p n false
-  unfolding zeros
-  zeros-stop p zero h w x = absurd (omega arith)
-  zeros-stop p (suc n) h w x = rw (at_one p h, ne_eqb _ _ x)
+module _ (s : List ℕ) (p n : ℕ) (l : p + n ≤ length s) where
+  operators_at : operators n (drop p s) ≡ (if list_all operator_byte (take n (drop p s)) then got (take n (drop p s)) (drop (p + n) s) else none)
+  operators_at = rw (operators_is n (drop p s) (rw length-drop (omega arith)), drop-drop n p s)
 
-  pub zeros-step : (p n q m : ℕ) → p < length s → n ≡ suc m → q ≡ p + 1 → get_or s p 0 ≡ 0 → (r : Bool) → Zeros s q m r → Zeros s p n r
-  unfolding zeros
-  zeros-step p n q m h e f x true z =
-      let g : p + n ≡ q + m = omega arith in rw (g, e, at_one p h, x, ← f) z
-  zeros-step p n q m h e f x false z = rw (e, at_one p h, x, ← f) z
+  pub operators_true : list_all operator_byte (take n (drop p s)) ≡ true → operators n (drop p s) ≡ got (take n (drop p s)) (drop (p + n) s)
+  operators_true e = operators_at ∙ rw e
 
-  -- operators
-  pub operators_end : (p n : ℕ) → n ≡ 0 → Operators s p n true
-  unfolding operators times
-  operators_end p n h = let e : p + 0 ≡ p = omega arith in rw (h, e)
-
-  pub operators-stop : (p n : ℕ) → p < length s → 0 < n → operator_byte (get_or s p 0) ≡ false → Operators s p n false
-  unfolding operators times
-  operators-stop p zero h w x = absurd (omega arith)
-  operators-stop p (suc n) h w x = rw (at_one p h, x)
-
-  pub operators-step : (p n q m : ℕ) → p < length s → n ≡ suc m → q ≡ p + 1 → operator_byte (get_or s p 0) ≡ true → (r : Bool) → Operators s q m r → Operators s p n r
-  unfolding operators times
-  operators-step p n q m h e f x true z =
-      let g : p + n ≡ q + m = omega arith in rw (g, e, at_one p h, x, ← f, z)
-  operators-step p n q m h e f x false z = rw (e, at_one p h, x, ← f, z)
+  pub operators_false : list_all operator_byte (take n (drop p s)) ≡ false → operators n (drop p s) ≡ none
+  operators_false e = operators_at ∙ rw e
 
 pub within_true : (l h x : ℕ) → l ≤ x → x ≤ h → within l h x ≡ true
 within_true l h x a b = simp (le-leb _ _ a, le-leb _ _ b)
@@ -80,18 +75,10 @@ within-high l h x b = high (leb l x)
     high true = lt-leb _ _ b
     high false = refl
 
-module _ (s : List ℕ) where
-  pub zeros_same : (p n q m : ℕ) → q ≡ p → m ≡ n → (r : Bool) → Zeros s q m r → Zeros s p n r
-  zeros_same p n q m e f r z = rw (e, f) at z
-
-  pub operators_same : (p n q m : ℕ) → q ≡ p → m ≡ n → (r : Bool) → Operators s q m r → Operators s p n r
-  operators_same p n q m e f r z = rw (e, f) at z
-
-  pub ended_past : (p : ℕ) → length s ≤ p → true ≡ all_zero (drop p s)
-  unfolding all_zero zeros
-  ended_past p h = rw (past s p h)
-
-  pub ended_here : (p : ℕ) (r : Bool) → Zeros s p (length s - p) r → r ≡ all_zero (drop p s)
-  unfolding all_zero
-  ended_here p true z = rw (length-drop, z)
-  ended_here p false z = rw (length-drop, z)
+pub within-most : (l h x : ℕ) → within l h x ≡ true → x ≤ h
+within-most l h x e = most (leb l x) (leb x h) refl e
+  where
+    most : (t u : Bool) → leb x h ≡ u → (t && u) ≡ true → x ≤ h
+    most true true f e = leb-true x h f
+    most true false f e = absurd (let z : ◌≡◌ {A = ℕ} 0 1 = cc in omega arith)
+    most false u f e = absurd (let z : ◌≡◌ {A = ℕ} 0 1 = cc in omega arith)

@@ -1,17 +1,25 @@
 -- Zeros eight words at a time.
-use mathlib.Core.Path.{◌≡◌, refl, ◌∙◌}
-use Prim.Native.Nat.{ℕ, zero, suc, ◌+◌, ◌-◌, ◌/◌, ◌%◌, ◌<◌, ◌≤◌, max}
+use Rattle.std.specs.Prelude.{if◌then◌else◌}
+use mathlib.Core.Path.{◌≡◌, refl, sym, ap, ◌∙◌}
+use Prim.Native.Nat.{ℕ, zero, suc, ◌+◌, ◌-◌, ◌/◌, ◌%◌, ◌≤◌, max}
 use mathlib.Core.List.{List, [], ◌∷◌}
-use mathlib.Core.Bool.{Bool, true, false}
+use mathlib.Core.Bool.{Bool, true, false, ◌&&◌}
 use native.Mathlib.Omega.{arith}
-use lib.ListN.{length, get_or, drop}
+use lib.ListN.{length, get_or, take, drop, drop_of_length-le, length-drop}
+use lib.Seq.{drop-drop, take_all}
 use lib.Dec.{eqb}
 use lib.Arith.{bin_ind}
 use lib.Bits.{bit_or, or_step}
-use borrow.Author.Tests.{eqb-true, eqb-false}
-use Rattle.unroller.specs.Words.{and_then, ask, zeros}
-use Rattle.unroller.specs.CheckAnswers.{Either, Zeros}
-use Rattle.unroller.proofs.CheckWords.{zeros_end, zeros-stop, zeros-step}
+use borrow.Author.Tests.{eqb-true}
+use Rattle.std.specs.List.{list_all}
+use Rattle.unroller.proofs.CheckWords.{at_one, at_three}
+use Rattle.unroller.specs.Words.{got, none, and_then, ask, zeros, all_zero, is_got}
+
+-- r is 0 only where both are
+record Both (x y r : ℕ) : Type 0 where
+  pub first : x ≤ r
+  pub second : y ≤ r
+  pub most : r ≤ x + y
 
 max_bounds : (a b : ℕ) → (a ≤ max a b) × (b ≤ max a b) × (max a b ≤ a + b)
 max_bounds zero zero = (omega arith, omega arith, omega arith)
@@ -25,10 +33,10 @@ max_bounds (suc a) (suc b) =
     (omega arith, omega arith, omega arith)
 
 -- a word that holds the bits of both is as large as each, and no larger than their sum
-or_bounds : (a b : ℕ) → Either a b (bit_or a b)
-or_bounds = bin_ind (λ (a : ℕ). (b : ℕ) → Either a b (bit_or a b)) (λ b. record { first = omega arith; second = omega arith; most = omega arith }) step
+or_bounds : (a b : ℕ) → Both a b (bit_or a b)
+or_bounds = bin_ind (λ (a : ℕ). (b : ℕ) → Both a b (bit_or a b)) (λ b. record { first = omega arith; second = omega arith; most = omega arith }) step
   where
-    step : (a : ℕ) → ((b : ℕ) → Either (a / 2) b (bit_or (a / 2) b)) → (b : ℕ) → Either a b (bit_or a b)
+    step : (a : ℕ) → ((b : ℕ) → Both (a / 2) b (bit_or (a / 2) b)) → (b : ℕ) → Both a b (bit_or a b)
     step a ih b =
         let i = ih (b / 2) in
         let e = or_step a b in
@@ -38,95 +46,108 @@ or_bounds = bin_ind (λ (a : ℕ). (b : ℕ) → Either a b (bit_or a b)) (λ b.
         let m2 = m.2 in
         record { first = omega arith; second = omega arith; most = omega arith }
 
-pub or_either : (x y r : ℕ) → r ≡ bit_or x y → Either x y r
-or_either x y r e = rw e (or_bounds x y)
-
-module _ (s : List ℕ) where
-  -- several words at once
-  zeros_all : (n p : ℕ) → p + n ≤ length s → ((i : ℕ) → i < n → get_or s (p + i) 0 ≡ 0) → Zeros s p n true
-  zeros_all zero p h f = zeros_end s p 0 refl
-  zeros_all (suc n) p h f =
-      let e : p + 0 ≡ p = omega arith in
-      let z = rw e at (f 0 (omega arith)) in
-      let g : (i : ℕ) → i < n → get_or s (p + 1 + i) 0 ≡ 0 = λ i l. let q : p + 1 + i ≡ p + suc i = omega arith in rw q (f (suc i) (omega arith)) in
-      zeros-step s p (suc n) (p + 1) n (omega arith) refl refl z true (zeros_all n (p + 1) (omega arith) g)
-
-  zeros-not : (n p : ℕ) → p + n ≤ length s → (((i : ℕ) → i < n → get_or s (p + i) 0 ≡ 0) → ⊥) → Zeros s p n false
-  zeros-not zero p h f = absurd (f (λ i l. absurd (omega arith)))
-  zeros-not (suc n) p h f = by (eqb (get_or s p 0) 0) refl (λ z. zeros-not n (p + 1) (omega arith) (λ g. f (all z g)))
-    where
-      all : get_or s p 0 ≡ 0 → ((i : ℕ) → i < n → get_or s (p + 1 + i) 0 ≡ 0) → (i : ℕ) → i < suc n → get_or s (p + i) 0 ≡ 0
-      all z g zero l = let e : p + 0 ≡ p = omega arith in rw e z
-      all z g (suc i) l = let q : p + suc i ≡ p + 1 + i = omega arith in rw q (g i (omega arith))
-
-      by : (t : Bool) → eqb (get_or s p 0) 0 ≡ t → (get_or s p 0 ≡ 0 → Zeros s (p + 1) n false) → Zeros s p (suc n) false
-      by true e r = let z = eqb-true (get_or s p 0) 0 e in zeros-step s p (suc n) (p + 1) n (omega arith) refl refl z false (r z)
-      by false e r = zeros-stop s p (suc n) (omega arith) (omega arith) (eqb-false (get_or s p 0) 0 e)
-
-  -- what eight words together tell of each
-  zeros-eight : (p v : ℕ) → p + 8 ≤ length s → ((i : ℕ) → i < 8 → get_or s (p + i) 0 ≤ v) → (((i : ℕ) → i < 8 → get_or s (p + i) 0 ≡ 0) → v ≡ 0) → Zeros s p 8 (eqb v 0)
-  zeros-eight p v h f g = by (eqb v 0) refl
-    where
-      by : (t : Bool) → eqb v 0 ≡ t → Zeros s p 8 t
-      by true e = let z = eqb-true v 0 e in zeros_all 8 p h (λ i l. let m = f i l in omega arith)
-      by false e = zeros-not 8 p h (λ a. eqb-false v 0 e (g a))
-
-  -- the same by eight words that are named
-  pub eight-told : (p v : ℕ) → p + 8 ≤ length s → get_or s p 0 ≤ v → get_or s (p + 1) 0 ≤ v → get_or s (p + 2) 0 ≤ v → get_or s (p + 3) 0 ≤ v →
-      get_or s (p + 4) 0 ≤ v → get_or s (p + 5) 0 ≤ v → get_or s (p + 6) 0 ≤ v → get_or s (p + 7) 0 ≤ v →
-      v ≤ get_or s p 0 + get_or s (p + 1) 0 + get_or s (p + 2) 0 + get_or s (p + 3) 0 + get_or s (p + 4) 0 + get_or s (p + 5) 0 + get_or s (p + 6) 0 + get_or s (p + 7) 0 → Zeros s p 8 (eqb v 0)
-  eight-told p v h a b c d e f g i m = zeros-eight p v h each none_left
-    where
-      first : p + 0 ≡ p
-      first = omega arith
-
-      each : (j : ℕ) → j < 8 → get_or s (p + j) 0 ≤ v
-      each zero l = rw first a
-      each (suc zero) l = b
-      each (suc (suc zero)) l = c
-      each (suc (suc (suc zero))) l = d
-      each (suc (suc (suc (suc zero)))) l = e
-      each (suc (suc (suc (suc (suc zero))))) l = f
-      each (suc (suc (suc (suc (suc (suc zero)))))) l = g
-      each (suc (suc (suc (suc (suc (suc (suc zero))))))) l = i
-      each (suc (suc (suc (suc (suc (suc (suc (suc j)))))))) l = absurd (omega arith)
-
-      none_left : ((j : ℕ) → j < 8 → get_or s (p + j) 0 ≡ 0) → v ≡ 0
-      none_left z =
-          let z0 = rw first at (z 0 (omega arith)) in
-          let z1 = z 1 (omega arith) in
-          let z2 = z 2 (omega arith) in
-          let z3 = z 3 (omega arith) in
-          let z4 = z 4 (omega arith) in
-          let z5 = z 5 (omega arith) in
-          let z6 = z 6 (omega arith) in
-          let z7 = z 7 (omega arith) in
-          omega arith
-
--- zeros behind zeros
-zeros-split : (n m l : ℕ) (w : List ℕ) → l ≡ n + m → zeros l w ≡ and_then (zeros n w) (λ _ v. zeros m v)
-unfolding zeros
-zeros-split zero m l w e = let q : l ≡ m = omega arith in rw q
-zeros-split (suc n) m zero w e = absurd (omega arith)
-zeros-split (suc n) m (suc l) [] e = refl
-zeros-split (suc n) m (suc l) (x ∷ w) e = by (eqb x 0) (zeros-split n m l w (omega arith))
+-- all zeros, word by word
+all_zero-cons : (x : ℕ) (s : List ℕ) → all_zero (x ∷ s) ≡ (eqb x 0 && all_zero s)
+unfolding all_zero zeros
+all_zero-cons x s = by (eqb x 0)
   where
-    by : (t : Bool) → zeros l w ≡ and_then (zeros n w) (λ _ v. zeros m v) → and_then (ask t w) (λ _ v. zeros l v) ≡ and_then (and_then (ask t w) (λ _ v. zeros n v)) (λ _ v. zeros m v)
-    by true r = r
-    by false r = refl
+    by : (t : Bool) → is_got (and_then (ask t s) (λ _ v. zeros (length s) v)) ≡ (t && is_got (zeros (length s) s))
+    by true = refl
+    by false = refl
 
-module _ (s : List ℕ) (p n l : ℕ) (t : Bool) (z : Zeros s p n t) where
-  pub zeros_first : t ≡ false → n ≤ l → Zeros s p l false
-  zeros_first e h = by t e z
-    where
-      by : (t : Bool) → t ≡ false → Zeros s p n t → Zeros s p l false
-      by false e z = let q : l ≡ n + (l - n) = omega arith in zeros-split n (l - n) l (drop p s) q ∙ rw z
-      by true e z = absurd (let z : ◌≡◌ {A = ℕ} 0 1 = cc in omega arith)
+pub all_zero-list : (s : List ℕ) → list_all (λ (x : ℕ). eqb x 0) s ≡ all_zero s
+all_zero-list [] = unfold all_zero zeros in refl
+all_zero-list (x ∷ s) = ap (λ (t : Bool). eqb x 0 && t) (all_zero-list s) ∙ sym (all_zero-cons x s)
 
-  pub zeros_then : t ≡ true → (q m : ℕ) → q ≡ p + n → l ≡ n + m → (r : Bool) → Zeros s q m r → Zeros s p l r
-  zeros_then e q m f g r y = by t e z r y
+all_zero-head : (x : ℕ) (s : List ℕ) → all_zero (x ∷ s) ≡ true → (x ≡ 0) × (all_zero s ≡ true)
+all_zero-head x s e = by (eqb x 0) refl (sym (all_zero-cons x s) ∙ e)
+  where
+    by : (t : Bool) → eqb x 0 ≡ t → (t && all_zero s) ≡ true → (x ≡ 0) × (all_zero s ≡ true)
+    by true e f = (eqb-true x 0 e, f)
+    by false e f = absurd (let z : ◌≡◌ {A = ℕ} 0 1 = cc in omega arith)
+
+-- eight words together
+abbrev eight : (a b c d e f g h : ℕ) → ℕ
+eight a b c d e f g h = bit_or (bit_or (bit_or (bit_or (bit_or (bit_or (bit_or a b) c) d) e) f) g) h
+
+module _ (a b c d e f g h : ℕ) where
+  -- they are 0 where all are
+  eight_none : eight a b c d e f g h ≡ 0 → (a ≡ 0) × (b ≡ 0) × (c ≡ 0) × (d ≡ 0) × (e ≡ 0) × (f ≡ 0) × (g ≡ 0) × (h ≡ 0)
+  eight_none z =
+      let b1 = or_bounds a b in
+      let b2 = or_bounds (bit_or a b) c in
+      let b3 = or_bounds (bit_or (bit_or a b) c) d in
+      let b4 = or_bounds (bit_or (bit_or (bit_or a b) c) d) e in
+      let b5 = or_bounds (bit_or (bit_or (bit_or (bit_or a b) c) d) e) f in
+      let b6 = or_bounds (bit_or (bit_or (bit_or (bit_or (bit_or a b) c) d) e) f) g in
+      let b7 = or_bounds (bit_or (bit_or (bit_or (bit_or (bit_or (bit_or a b) c) d) e) f) g) h in
+      (omega arith, omega arith, omega arith, omega arith, omega arith, omega arith, omega arith, omega arith)
+
+  eight_zero : a ≡ 0 → b ≡ 0 → c ≡ 0 → d ≡ 0 → e ≡ 0 → f ≡ 0 → g ≡ 0 → h ≡ 0 → eight a b c d e f g h ≡ 0
+  eight_zero i j k l m n o p = rw (i, j, k, l, m, n, o, p)
+
+  module _ (s : List ℕ) where
+    here : all_zero (a ∷ b ∷ c ∷ d ∷ e ∷ f ∷ g ∷ h ∷ s) ≡ true → eight a b c d e f g h ≡ 0
+    here z =
+        let i = all_zero-head a _ z in
+        let j = all_zero-head b _ i.1 in
+        let k = all_zero-head c _ j.1 in
+        let l = all_zero-head d _ k.1 in
+        let m = all_zero-head e _ l.1 in
+        let n = all_zero-head f _ m.1 in
+        let o = all_zero-head g _ n.1 in
+        let p = all_zero-head h _ o.1 in
+        eight_zero i.0 j.0 k.0 l.0 m.0 n.0 o.0 p.0
+
+    behind : eight a b c d e f g h ≡ 0 → all_zero s ≡ all_zero (a ∷ b ∷ c ∷ d ∷ e ∷ f ∷ g ∷ h ∷ s)
+    unfolding all_zero zeros
+    behind z = let (i, j, k, l, m, n, o, p) = eight_none z in rw (i, j, k, l, m, n, o, p)
+
+module _ (w : List ℕ) (l : 8 ≤ length w) where
+  abbrev first_eight : ℕ
+  first_eight = eight (get_or w 0 0) (get_or w 1 0) (get_or w 2 0) (get_or w 3 0) (get_or w 4 0) (get_or w 5 0) (get_or w 6 0) (get_or w 7 0)
+
+  taken : w ≡ get_or w 0 0 ∷ get_or w 1 0 ∷ get_or w 2 0 ∷ get_or w 3 0 ∷ get_or w 4 0 ∷ get_or w 5 0 ∷ get_or w 6 0 ∷ get_or w 7 0 ∷ drop 8 w
+  taken =
+      at_three w 0 (omega arith) ∙ ap (λ (v : List ℕ). get_or w 0 0 ∷ get_or w 1 0 ∷ get_or w 2 0 ∷ v)
+      (at_three w 3 (omega arith) ∙ ap (λ (v : List ℕ). get_or w 3 0 ∷ get_or w 4 0 ∷ get_or w 5 0 ∷ v)
+      (at_one w 6 (omega arith) ∙ ap (λ (v : List ℕ). get_or w 6 0 ∷ v) (at_one w 7 (omega arith))))
+
+  pub eight_zeros : first_eight ≡ 0 → all_zero (take (length w - 8) (drop 8 w)) ≡ all_zero w
+  eight_zeros z =
+      ap all_zero (take_all (length w - 8) (drop 8 w) (rw length-drop (omega arith)))
+      ∙ behind (get_or w 0 0) (get_or w 1 0) (get_or w 2 0) (get_or w 3 0) (get_or w 4 0) (get_or w 5 0) (get_or w 6 0) (get_or w 7 0) (drop 8 w) z
+      ∙ ap all_zero (sym taken)
+
+  pub eight-not : (first_eight ≡ 0 → ⊥) → false ≡ all_zero w
+  eight-not n = by (all_zero w) refl
     where
-      by : (t : Bool) → t ≡ true → Zeros s p n t → (r : Bool) → Zeros s q m r → Zeros s p l r
-      by true e z true y = let h : p + l ≡ q + m = omega arith in rw h (zeros-split n m l (drop p s) g ∙ rw (z, ← f) y)
-      by true e z false y = zeros-split n m l (drop p s) g ∙ rw (z, ← f) y
-      by false e z r y = absurd (let z : ◌≡◌ {A = ℕ} 0 1 = cc in omega arith)
+      by : (t : Bool) → all_zero w ≡ t → false ≡ t
+      by true e = absurd (n (here (get_or w 0 0) (get_or w 1 0) (get_or w 2 0) (get_or w 3 0) (get_or w 4 0) (get_or w 5 0) (get_or w 6 0) (get_or w 7 0) (drop 8 w) (ap all_zero (sym taken) ∙ e)))
+      by false e = refl
+
+-- n words that are 0, at a place
+zeros_is : (n : ℕ) (w : List ℕ) → n ≤ length w → zeros n w ≡ (if all_zero (take n w) then got 0 (drop n w) else none)
+unfolding zeros
+zeros_is zero w l = unfold all_zero in refl
+zeros_is (suc n) [] l = absurd (omega arith)
+zeros_is (suc n) (x ∷ w) l = rw (all_zero-cons x (take n w)) (by (eqb x 0) (zeros_is n w (omega arith)))
+  where
+    by : (t : Bool) → zeros n w ≡ (if all_zero (take n w) then got 0 (drop n w) else none)
+        → and_then (ask t w) (λ _ v. zeros n v) ≡ (if t && all_zero (take n w) then got 0 (drop n w) else none)
+    by true e = e
+    by false e = refl
+
+module _ (s : List ℕ) (p n : ℕ) (l : p + n ≤ length s) where
+  zeros_at : zeros n (drop p s) ≡ (if all_zero (take n (drop p s)) then got 0 (drop (p + n) s) else none)
+  zeros_at = rw (zeros_is n (drop p s) (rw length-drop (omega arith)), drop-drop n p s)
+
+  pub zeros_true : all_zero (take n (drop p s)) ≡ true → zeros n (drop p s) ≡ got 0 (drop (p + n) s)
+  zeros_true e = zeros_at ∙ rw e
+
+  pub zeros_false : all_zero (take n (drop p s)) ≡ false → zeros n (drop p s) ≡ none
+  zeros_false e = zeros_at ∙ rw e
+
+pub ended_past : (s : List ℕ) (p : ℕ) → length s ≤ p → true ≡ all_zero (drop p s)
+unfolding all_zero zeros
+ended_past s p h = rw (drop_of_length-le s h)

@@ -1,49 +1,30 @@
 -- What the code answers of what a reader does at a place of the words.
-use Rattle.std.specs.Prelude.{ℕ, zero, suc, ◌+◌, ◌*◌, ◌≤◌, ◌≡◌, List, [], ◌∷◌, Bool, true, false, drop, take, get_or, set, eqb, if◌then◌else◌}
+use Rattle.std.specs.Prelude.{ℕ, zero, suc, ◌+◌, ◌*◌, ◌≤◌, ◌≡◌, List, [], ◌∷◌, Bool, true, false, drop, take, get_or, set, eqb, if◌then◌else◌, Option, Some, None, Result, Ok, Err}
 use Rattle.model.specs.Test.{within}
 use Rattle.model.specs.Tables.{cells, Array, Tables}
 use Rattle.model.specs.Update.{Tree, Trees, size, sizes, Update}
 use Rattle.model.specs.Reply.{left, both}
-use Rattle.unroller.specs.Words.{Out, got, none, Reader, is_got, zeros}
-use Rattle.unroller.specs.Decode.{operators, array, arrays, tables, node, update, updates}
+use Rattle.unroller.specs.Words.{Out, got, none, Reader, is_got}
+use Rattle.unroller.specs.Decode.{array, arrays, tables, node, update, updates}
 use Rattle.unroller.specs.Unroll as Unroll
 use Rattle.unroller.specs.State.{State, Small, readable_in, writable_in, spot}
-use Rattle.unroller.specs.declared.lists.Checked.{Checked}
-use Rattle.unroller.specs.declared.lists.Checked.TheVariants as checked
-use Rattle.unroller.specs.declared.lists.Moved.{Moved}
-use Rattle.unroller.specs.declared.lists.Moved.TheVariants.{To, Stop}
-use Rattle.unroller.specs.declared.lists.Declared.{Declared}
-use Rattle.unroller.specs.declared.lists.Declared.TheVariants.{Is, Not}
+use Rattle.unroller.specs.declared.lists.ListError.{ListError}
+use Rattle.unroller.specs.declared.lists.ListError.TheVariants.{Refused, Short}
 
--- the reply that each case stands for; a list alone is the left one
-abbrev pub checked_says : Checked → Unroll.Checked
-checked_says checked.Accepted = Unroll.accepts
-checked_says checked.Refused = Unroll.refuses left 26 0
-checked_says checked.Short = Unroll.refuses both 25 0
+-- the reply that each answer stands for; a list alone is the left one
+abbrev pub checked_says : Result (Unit {0}) ListError → Unroll.Checked
+checked_says (Ok _) = Unroll.accepts
+checked_says (Err Refused) = Unroll.refuses left 26 0
+checked_says (Err Short) = Unroll.refuses both 25 0
 
--- r is 0 only where both are
-pub record Either (x y r : ℕ) : Type 0 where
-  pub first : x ≤ r
-  pub second : y ≤ r
-  pub most : r ≤ x + y
+-- the factor that a word adds to an array's size
+unfoldable pub factor_of : Bool → ℕ → Option ℕ
+factor_of true x = if within 1 1024 x then Some x else None
+factor_of false x = if eqb x 0 then Some 1 else None
 
--- n words that are 0, at a place
-abbrev pub Zeros : List ℕ → ℕ → ℕ → Bool → Type 0
-Zeros s from n true = zeros n (drop from s) ≡ got 0 (drop (from + n) s)
-Zeros s from n false = zeros n (drop from s) ≡ none
-
-abbrev pub Operators : List ℕ → ℕ → ℕ → Bool → Type 0
-Operators s from n true = operators n (drop from s) ≡ got (take n (drop from s)) (drop (from + n) s)
-Operators s from n false = operators n (drop from s) ≡ none
-
--- the factor that a word adds to an array's size; 0 where it is wrong
-unfoldable pub factor_of : Bool → ℕ → ℕ
-factor_of true x = if within 1 1024 x then x else 0
-factor_of false x = if eqb x 0 then 1 else 0
-
-abbrev pub Declares : List ℕ → ℕ → Declared → Type 0
-Declares s at (Is role n) = (x : Array) × (array (drop at s) ≡ got x (drop (at + 5) s)) × (x.role ≡ role) × (cells x.extents ≡ n) × (role ≤ 3) × (n ≤ 1073741824)
-Declares s at Not = array (drop at s) ≡ none
+abbrev pub Declares : List ℕ → ℕ → Option (ℕ × ℕ) → Type 0
+Declares s at (Some d) = (x : Array) × (array (drop at s) ≡ got x (drop (at + 5) s)) × (x.role ≡ d.0) × (cells x.extents ≡ d.1) × (d.0 ≤ 3) × (d.1 ≤ 1073741824)
+Declares s at None = array (drop at s) ≡ none
 
 abbrev pub Arrays : List ℕ → ℕ → List ℕ → Bool → Type 0
 Arrays s m st true = (xs : List Array) × (arrays m false 0 (drop 18 s) ≡ got xs (drop (18 + 5 * m) s)) × Small xs × State xs [] st
@@ -84,10 +65,10 @@ abbrev pub ReadsAll : List ℕ → ℕ → Out Trees → Answer → Type 0
 ReadsAll s from o (Got next) = (ts : Trees) × (o ≡ got ts (drop next s)) × (next ≡ from + 3 * sizes ts)
 ReadsAll s from o No = o ≡ none
 
-abbrev pub Updates : List ℕ → ℕ → List ℕ → List ℕ → ℕ → List ℕ → Moved → Type 0
-Updates s at ops st count st' (To next n) =
-    (u : Update) × (update ops (writable_in st) (readable_in st) count (drop at s) ≡ got u (drop next s)) × (n ≡ count + size u.source) × (n ≤ 8192) × (writable_in st u.array u.target ≡ true) × (st' ≡ set st (spot u.array u.target) 2)
-Updates s at ops st count st' Stop = update ops (writable_in st) (readable_in st) count (drop at s) ≡ none
+abbrev pub Updates : List ℕ → ℕ → List ℕ → List ℕ → ℕ → List ℕ → Option (ℕ × ℕ) → Type 0
+Updates s at ops st count st' (Some m) =
+    (u : Update) × (update ops (writable_in st) (readable_in st) count (drop at s) ≡ got u (drop m.0 s)) × (m.1 ≡ count + size u.source) × (m.1 ≤ 8192) × (writable_in st u.array u.target ≡ true) × (st' ≡ set st (spot u.array u.target) 2)
+Updates s at ops st count st' None = update ops (writable_in st) (readable_in st) count (drop at s) ≡ none
 
 -- the updates from word 98 on, for any tables that the operators and the state belong to
 abbrev pub Follow : List ℕ → List ℕ → List ℕ → Bool → Type 0

@@ -11,5 +11,5 @@ mod statement;
 mod walk;
 
 pub use entry::{UnrollError, unroll};
-pub use lists::{Checked, check_list};
+pub use lists::{ListError, check_list};
 pub use origins::{Writer, origin_of};

@@ -3,8 +3,6 @@ use Prim.Native.Nat.{◌-◌}
 use Rattle.unroller.specs.State.{readable_in}
 use Rattle.unroller.specs.CheckAnswers.{No, answer_of}
 use Rattle.unroller.proofs.CheckTrees.{node-short, node_leaf_yes, node_leaf_no, node-operator, node-operator_bad, operator_none, operator_unknown, operator_some, args_end, args-stop, args-step}
-use mathlib.Core.Path.{ap, ◌∙◌}
-use Rattle.model.specs.Tables.{arity_of}
 use Rattle.unroller.proofs.lists.+args_node_operator.Goals as goal
 
 pub args-loop-more-init : goal.args-loop-more-init
@@ -51,14 +49,6 @@ node-returns-then-list-lt3 t c =
     let f = readable_in a.state.now in
     node-short o f s a.at a.left (omega arith)
 
-pub node-returns-then-list-at : goal.node-returns-then-list-at
-node-returns-then-list-at t c =
-    let a = c.args in
-    let s = a.list.now in
-    let o = a.ops.now in
-    let f = readable_in a.state.now in
-    node-short o f s a.at a.left (omega arith)
-
 pub node-returns-then-y-eq0 : goal.node-returns-then-y-eq0
 node-returns-then-y-eq0 t c =
     let a = c.args in
@@ -99,19 +89,12 @@ operator-returns-then-left-eq0 t c =
     let f = readable_in a.state.now in
     operator_none o f s a.at a.left a.o c.if-left-eq0.true
 
-pub operator-returns-then-k-ops : goal.operator-returns-then-k-ops
-operator-returns-then-k-ops t c =
+pub operator-returns-then-ops-k : goal.operator-returns-then-ops-k
+operator-returns-then-ops-k t c =
     let a = c.args in
-    let s = a.list.now in
-    let o = a.ops.now in
-    let f = readable_in a.state.now in
-    operator_some o f s a.at a.left (a.left - 1) c.wide-k.result a.o c.arity.result (answer_of c.args-then-k-ops.result) (omega arith)
-    c.wide-k.ensures c.if-k-ops.true (c.arity.ensures ∙ ap arity_of c.wide-byte.ensures) c.args-then-k-ops.ensures
+    operator_unknown a.ops.now (readable_in a.state.now) a.list.now a.at a.left a.o c.if-ops-k.true
 
 pub operator-returns : goal.operator-returns
 operator-returns t c =
     let a = c.args in
-    let s = a.list.now in
-    let o = a.ops.now in
-    let f = readable_in a.state.now in
-    operator_unknown o f s a.at a.left a.o (omega arith)
+    operator_some a.ops.now (readable_in a.state.now) a.list.now a.at a.left (a.left - 1) a.o c.arity.result (answer_of c.args-2.result) (omega arith) c.if-ops-k.false c.arity.ensures c.args-2.ensures

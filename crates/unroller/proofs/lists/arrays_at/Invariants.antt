@@ -1,11 +1,8 @@
 use mathlib.Core.Path.{◌≡◌}
-use Prim.Native.Nat.{◌-◌, ◌≤◌}
+use Prim.Native.Nat.{◌≤◌}
 use lib.ListN.{length}
 use Rattle.unroller.proofs.CheckTable.{Sofar}
 use Rattle.unroller.proofs.lists.arrays_at.Given as goal
 
 abbrev pub invariant-loop-k : goal.invariant-loop-k
-invariant-loop-k l = (l.k ≤ l.m) × (l.sum ≤ 2048) × (length l.state ≡ 32768) × Sofar l.list l.m l.state l.k l.local l.sum
-
-abbrev pub decreases-loop-k : goal.decreases-loop-k
-decreases-loop-k l = l.m - l.k
+invariant-loop-k l = (l.sum ≤ 2048) × (length l.state ≡ 32768) × Sofar l.list l.m l.state l.k l.local l.sum

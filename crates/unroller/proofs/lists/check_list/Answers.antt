@@ -8,8 +8,8 @@ returns-then-list-lt-LIST_WORDS c = short _ c.if-list-lt-LIST_WORDS.true
 pub accepts-requires : goal.accepts-requires
 accepts-requires c = record { header_words_in_bounds = omega arith; state_len = zero-array 32768 }
 
-pub returns-then-accepts : goal.returns-then-accepts
-returns-then-accepts c = accepted _ _ c.if-list-lt-LIST_WORDS.false c.if-accepts.true c.accepts.ensures
+pub returns-then-not-accepts : goal.returns-then-not-accepts
+returns-then-not-accepts c = refused _ _ c.if-list-lt-LIST_WORDS.false c.if-not-accepts.true c.accepts.ensures
 
-pub returns-else-accepts : goal.returns-else-accepts
-returns-else-accepts c = refused _ _ c.if-list-lt-LIST_WORDS.false c.if-accepts.false c.accepts.ensures
+pub returns : goal.returns
+returns c = accepted _ _ c.if-list-lt-LIST_WORDS.false c.if-not-accepts.false c.accepts.ensures

@@ -1,74 +1,40 @@
-use mathlib.Core.Path.{refl}
-use Prim.Native.Nat.{◌+◌, ◌-◌}
-use lib.ListN.{get_or}
-use borrow.Author.Tests.{not-true, not-false}
-use Rattle.unroller.proofs.CheckTable.{head-count, head-operators, head_blank, head-low, head-high, head-arrays, head_all, operators_true, zeros_true, arrays_true}
-use mathlib.Core.Path.{ap}
-use mathlib.Core.Bool.{not}
+use mathlib.Core.Path.{◌≡◌, refl, sym, ◌∙◌}
+use mathlib.Core.Bool.{true, false}
+use native.Mathlib.Omega.{arith}
+use Rattle.unroller.proofs.CheckTable.{same_operators, head-bounds, head-operators, head_blank, head-arrays, head_all}
+use Rattle.unroller.proofs.lists.header.Goals.{then-operators, else-operators, then-zeros, else-zeros}
 use Rattle.unroller.proofs.lists.header.Goals as goal
 
 pub returns-then-n-gt16 : goal.returns-then-n-gt16
-returns-then-n-gt16 c =
-    let a = c.args in
-    let s = a.list.now in
-    let n = c.wide-n.result in
-    let m = get_or s 17 0 in
-    let h = c.requires.header_words_in_bounds in
-    head-count s n m h c.wide-n.ensures refl c.if-n-gt16.true
+returns-then-n-gt16 c = head-bounds _ _ _ c.requires.header_words_in_bounds refl refl c.then-n-gt16.either
 
-pub returns-then-not-operators_at : goal.returns-then-not-operators_at
-returns-then-not-operators_at c =
-    let a = c.args in
-    let s = a.list.now in
-    let n = c.wide-n.result in
-    let m = get_or s 17 0 in
-    let h = c.requires.header_words_in_bounds in
-    head-operators s n m h c.wide-n.ensures refl c.if-n-gt16.false _ (not-true c.operators_at.result (ap not c.if-not-operators_at.true)) c.operators_at.ensures
+pub returns-then-arrays_at : goal.returns-then-arrays_at
+returns-then-arrays_at c =
+    elim c.if-zeros.branch [
+      | then-zeros w ↦ elim c.if-operators.branch [
+        | then-operators v ↦
+            let o = same_operators _ _ _ c.requires.header_words_in_bounds refl refl _ _ true (omega arith) c.operators.ensures v.if-operators.true in
+            let z = sym v.zeros.ensures ∙ sym v.value-is ∙ w.if-zeros.true in
+            let e : w.arrays_at.result ≡ true = sym w.value-is ∙ c.if-arrays_at.true in
+            rw w.state-is
+            (head_all _ _ _ c.requires.header_words_in_bounds refl refl c.if-n-gt16.false o z c.if-m-lt1.false c.if-m-gt16.false _ (rw e at w.arrays_at.ensures) _ c.zeros-then-arrays_at.ensures)
+        | else-operators v ↦ absurd cc
+      ]
+      | else-zeros w ↦ absurd cc
+    ]
 
-pub returns-then-not-zeros_at : goal.returns-then-not-zeros_at
-returns-then-not-zeros_at c =
-    let a = c.args in
-    let s = a.list.now in
-    let n = c.wide-n.result in
-    let m = get_or s 17 0 in
-    let h = c.requires.header_words_in_bounds in
-    head_blank s n m h c.wide-n.ensures refl c.if-n-gt16.false (operators_true s 1 n _ (not-false c.operators_at.result (ap not c.if-not-operators_at.false)) c.operators_at.ensures) _ (not-true c.zeros_at.result (ap not c.if-not-zeros_at.true)) c.zeros_at.ensures
-
-pub returns-then-m-lt1 : goal.returns-then-m-lt1
-returns-then-m-lt1 c =
-    let a = c.args in
-    let s = a.list.now in
-    let n = c.wide-n.result in
-    let m = c.wide-m.result in
-    let h = c.requires.header_words_in_bounds in
-    head-low s n m h c.wide-n.ensures c.wide-m.ensures c.if-n-gt16.false (operators_true s 1 n _ (not-false c.operators_at.result (ap not c.if-not-operators_at.false)) c.operators_at.ensures) (zeros_true s (1 + n) (16 - n) _ (not-false c.zeros_at.result (ap not c.if-not-zeros_at.false)) c.zeros_at.ensures) c.if-m-lt1.true
-
-pub returns-then-m-gt16 : goal.returns-then-m-gt16
-returns-then-m-gt16 c =
-    let a = c.args in
-    let s = a.list.now in
-    let n = c.wide-n.result in
-    let m = c.wide-m.result in
-    let h = c.requires.header_words_in_bounds in
-    head-high s n m h c.wide-n.ensures c.wide-m.ensures c.if-n-gt16.false (operators_true s 1 n _ (not-false c.operators_at.result (ap not c.if-not-operators_at.false)) c.operators_at.ensures) (zeros_true s (1 + n) (16 - n) _ (not-false c.zeros_at.result (ap not c.if-not-zeros_at.false)) c.zeros_at.ensures) c.if-m-gt16.true
-
-pub arrays_at-requires : goal.arrays_at-requires
-arrays_at-requires c = record { header_words_in_bounds = (c.requires.header_words_in_bounds, c.if-m-gt16.false); state_len = c.requires.state_len }
-
-pub returns-then-not-arrays_at : goal.returns-then-not-arrays_at
-returns-then-not-arrays_at c =
-    let a = c.args in
-    let s = a.list.now in
-    let n = c.wide-n.result in
-    let m = c.wide-m.result in
-    let h = c.requires.header_words_in_bounds in
-    head-arrays s n m h c.wide-n.ensures c.wide-m.ensures c.if-n-gt16.false (operators_true s 1 n _ (not-false c.operators_at.result (ap not c.if-not-operators_at.false)) c.operators_at.ensures) (zeros_true s (1 + n) (16 - n) _ (not-false c.zeros_at.result (ap not c.if-not-zeros_at.false)) c.zeros_at.ensures) c.if-m-lt1.false c.if-m-gt16.false _ _ (not-true c.arrays_at.result (ap not c.if-not-arrays_at.true)) c.arrays_at.ensures
-
-pub returns : goal.returns
-returns c =
-    let a = c.args in
-    let s = a.list.now in
-    let n = c.wide-n.result in
-    let m = c.wide-m.result in
-    let h = c.requires.header_words_in_bounds in
-    head_all s n m h c.wide-n.ensures c.wide-m.ensures c.if-n-gt16.false (operators_true s 1 n _ (not-false c.operators_at.result (ap not c.if-not-operators_at.false)) c.operators_at.ensures) (zeros_true s (1 + n) (16 - n) _ (not-false c.zeros_at.result (ap not c.if-not-zeros_at.false)) c.zeros_at.ensures) c.if-m-lt1.false c.if-m-gt16.false _ (arrays_true s m _ _ (not-false c.arrays_at.result (ap not c.if-not-arrays_at.false)) c.arrays_at.ensures) c.zeros_at-2.result c.zeros_at-2.ensures
+pub returns-else-arrays_at : goal.returns-else-arrays_at
+returns-else-arrays_at c =
+    rw c.if-arrays_at.false
+    (elim c.if-operators.branch [
+      | else-operators v ↦ head-operators _ _ _ c.requires.header_words_in_bounds refl refl c.if-n-gt16.false (same_operators _ _ _ c.requires.header_words_in_bounds refl refl _ _ false (omega arith) c.operators.ensures v.if-operators.false)
+      | then-operators v ↦
+          let o = same_operators _ _ _ c.requires.header_words_in_bounds refl refl _ _ true (omega arith) c.operators.ensures v.if-operators.true in
+          elim c.if-zeros.branch [
+            | else-zeros w ↦ head_blank _ _ _ c.requires.header_words_in_bounds refl refl c.if-n-gt16.false o (sym v.zeros.ensures ∙ sym v.value-is ∙ w.if-zeros.false)
+            | then-zeros w ↦
+                let z = sym v.zeros.ensures ∙ sym v.value-is ∙ w.if-zeros.true in
+                let e : w.arrays_at.result ≡ false = sym w.value-is ∙ c.if-arrays_at.false in
+                head-arrays _ _ _ c.requires.header_words_in_bounds refl refl c.if-n-gt16.false o z c.if-m-lt1.false c.if-m-gt16.false (rw e at w.arrays_at.ensures)
+          ]
+    ])
