@@ -214,14 +214,11 @@ fn args(list: &[u32], at: usize, ops: &[u32], state: &[u8], left: usize, n: usiz
     ensures { ReadsAll list.now at (times nil cons (expr ops.now (readable_in state.now) left) n (drop at list.now)) (answer_of result) }
 {
     let mut place = at;
-    let mut more = n;
-    while 0 < more {
-        let next = node(list, place, ops, state, left);
-        if next == 0 {
+    for _ in 0..n {
+        place = node(list, place, ops, state, left);
+        if place == 0 {
             return 0;
         }
-        place = next;
-        more -= 1;
     }
     place
 }

@@ -1,4 +1,4 @@
-use Prim.Native.Nat.{◌+◌, ◌*◌, ◌<◌}
+use Prim.Native.Nat.{◌+◌, ◌-◌, ◌*◌, ◌<◌}
 use lib.ListN.{drop}
 use Rattle.model.specs.Update.Trees.{nil, cons}
 use Rattle.unroller.specs.Words.{times}
@@ -16,10 +16,7 @@ decreases-node l = 3 * l.left + 2
 abbrev pub decreases-operator : goal.decreases-operator
 decreases-operator l = 3 * l.left + 1
 
-abbrev pub invariant-args-loop-more : goal.invariant-args-loop-more
-invariant-args-loop-more l =
-    (0 < l.place) × ((r : Answer) → ReadsAll l.list l.place (times nil cons (expr l.ops (readable_in l.state) l.left) l.more (drop l.place l.list)) r →
+abbrev pub invariant-args-loop : goal.invariant-args-loop
+invariant-args-loop l =
+    (0 < l.place) × ((r : Answer) → ReadsAll l.list l.place (times nil cons (expr l.ops (readable_in l.state) l.left) (l.n - l.counter) (drop l.place l.list)) r →
     ReadsAll l.list l.at (times nil cons (expr l.ops (readable_in l.state) l.left) l.n (drop l.at l.list)) r)
-
-abbrev pub decreases-args-loop-more : goal.decreases-args-loop-more
-decreases-args-loop-more l = l.more
