@@ -1,4 +1,7 @@
 -- An expression written node by node in prefix order: what each record leaves to be written, and the loop over them.
+use Rattle.std.specs.Prelude.{Result, Ok, Err}
+use Rattle.model.specs.Questions.{number_of}
+use Rattle.model.specs.declared.question.Refusal.{Refusal}
 use mathlib.Core.Path.{◌≡◌, refl, sym, ap, ap₂, ◌∙◌, subst}
 use Prim.Native.Nat.{ℕ, zero, suc, ◌+◌, ◌-◌, ◌*◌, ◌≤◌, ◌<◌}
 use native.Mathlib.Omega.{arith}
@@ -19,19 +22,13 @@ use Rattle.reader.specs.Syntax.Expr.{apply}
 use Rattle.reader.specs.Syntax.Exprs.{none, more}
 use Rattle.reader.specs.Grammar.{form, subscripts, index, read_of, literal_of, constant_of, apply_of, node, applied}
 use Rattle.reader.specs.Field.{u32}
-use Rattle.reader.specs.Answers.{field_says}
-use Rattle.reader.specs.declared.fields.Field.{Field}
-use Rattle.reader.specs.declared.fields.Field.TheVariants as field
+use Rattle.reader.specs.Answers.{read_says}
 use Rattle.reader.proofs.Binds.{not-got, read_by, choose_by, got_is}
-use Rattle.reader.proofs.Steps.{field-got, field_no}
+use Rattle.reader.proofs.Steps.{read-got, read_no}
 use Rattle.unroller.specs.Run.{Ran, ok, stop, ◌>>=◌, tree, trees}
 use Rattle.unroller.specs.Allowed.{allowed_tables}
 use Rattle.unroller.specs.Layout.{tree_words, trees_words}
-use Rattle.unroller.specs.Writes.{WroteIs, leaf_of, WritesLeaf, WritesNode, Chain, forest, total, WritesRest, WritesRecord, WritesOperator, leaf_record, Roomy, Ends}
-use Rattle.unroller.specs.declared.statement.Wrote.{Wrote}
-use Rattle.unroller.specs.declared.statement.Wrote.TheVariants as wrote
-use Rattle.unroller.specs.declared.statement.Record.{Record}
-use Rattle.unroller.specs.declared.statement.Record.TheVariants as rec
+use Rattle.unroller.specs.Writes.{Part, WroteIs, leaf_of, WritesLeaf, WritesNode, Chain, forest, total, WritesRest, WritesRecord, WritesOperator, Roomy, Ends}
 use Rattle.model.proofs.Operators.{arity_few}
 use Rattle.unroller.proofs.Parts.{within-high, every_at, tables-parts}
 use Rattle.unroller.proofs.Accepted.{index_below}
@@ -96,7 +93,7 @@ module _ (s : List ℕ) (t : Tables) (loops : ℕ) (is : List ℤ) where
       go (stop k q) m = refl
 
   -- the first of the expressions that stand there
-  rest_by : (at n : ℕ) (list : List ℕ) (to : ℕ) (r : Wrote) (list' : List ℕ) →
+  rest_by : (at n : ℕ) (list : List ℕ) (to : ℕ) (r : Part) (list' : List ℕ) →
       ((e : Expr) (rest : List Expr) (left mid next p : ℕ) → node t loops (applied t loops left) s at ≡ got e mid → Chain s t loops is mid rest next → length rest ≡ n → loops ≤ 8 → length is ≡ 8
       → allowed_tables t ≡ true → to + 3 * (count e + total rest) ≤ length list → WroteIs (λ ws. ws) list to next (forest s t loops is (e ∷ rest) p) r list')
       → WritesRest s t loops is at (suc n) list to r list'
@@ -105,39 +102,39 @@ module _ (s : List ℕ) (t : Tables) (loops : ℕ) (is : List ℤ) where
   rest_by at n list to r list' f (e ∷ rest) next p ch len l i a w = f e rest ch.0 ch.1 next p ch.2 ch.3 (omega arith) l i a w
 
   -- ---- the loop's end and its beginning
-  pub rest_end : (at n : ℕ) (list : List ℕ) (to : ℕ) → n ≡ 0 → WritesRest s t loops is at n list to (wrote.To at to) list
+  pub rest_end : (at n : ℕ) (list : List ℕ) (to : ℕ) → n ≡ 0 → WritesRest s t loops is at n list to (Ok (at, to)) list
   unfolding WritesRest Chain forest
   rest_end at n list to z [] next p ch len l i a w = (ch, omega arith, refl)
   rest_end at n list to z (e ∷ es) next p ch len l i a w = absurd (omega arith)
 
-  pub rest_whole : (at left : ℕ) (list : List ℕ) (to : ℕ) (r : Wrote) (list' : List ℕ) → WritesRest s t loops is at 1 list to r list' → WritesNode s at t loops is left list to r list'
+  pub rest_whole : (at left : ℕ) (list : List ℕ) (to : ℕ) (r : Part) (list' : List ℕ) → WritesRest s t loops is at 1 list to r list' → WritesNode s at t loops is left list to r list'
   unfolding WritesRest WritesNode Chain forest total
   rest_whole at left list to r list' h e next p g l i a w =
       go (tree e t p (take loops is)) r (h (e ∷ []) next p (left, next, g, refl) refl l i a (let z : count e + 0 ≡ count e = omega arith in rw z w))
     where
-      go : (m : Ran Tree) (r : Wrote) → WroteIs (λ ws. ws) list to next (m >>= λ x. ok (tree_words x ++ [])) r list' → WroteIs tree_words list to next m r list'
-      go (ok x) (wrote.To a b) h = rw (append-nil (tree_words x)) at h
-      go (ok x) (wrote.No k) h = absurd h
-      go (stop k q) (wrote.To a b) h = absurd h
-      go (stop k q) (wrote.No j) h = h
+      go : (m : Ran Tree) (r : Part) → WroteIs (λ ws. ws) list to next (m >>= λ x. ok (tree_words x ++ [])) r list' → WroteIs tree_words list to next m r list'
+      go (ok x) (Ok (a, b)) h = rw (append-nil (tree_words x)) at h
+      go (ok x) (Err k) h = absurd h
+      go (stop k q) (Ok (a, b)) h = absurd h
+      go (stop k q) (Err j) h = h
 
   -- ---- one record
   module _ (at : ℕ) (list : List ℕ) (to : ℕ) (list1 : List ℕ) where
-    pub record-short : (k : ℕ) → length list < to + 3 → WritesRecord s t loops is at list to (rec.No k) list1
+    pub record-short : (k : Refusal) → length list < to + 3 → WritesRecord s t loops is at list to (Err k) list1
     unfolding WritesRecord
-    record-short k h n list' = rest_by at n list to (wrote.No k) list' λ e rest left mid next p g ch len l i a w. absurd (let z = count_some e in omega arith)
+    record-short k h n list' = rest_by at n list to (Err k) list' λ e rest left mid next p g ch len l i a w. absurd (let z = count_some e in omega arith)
 
-    module _ (m : Field) (says : field_says m ≡ byte s at) where
-      pub record_no : (k q j : ℕ) → m ≡ field.Not k q → WritesRecord s t loops is at list to (rec.No j) list1
+    module _ (m : Result (ℕ × ℕ) Refusal) (says : read_says m ≡ byte s at) where
+      pub record_no : (k : Refusal) → m ≡ Err k → WritesRecord s t loops is at list to (Err k) list1
       unfolding WritesRecord node
-      record_no k q j x n list' = rest_by at n list to (wrote.No j) list' λ e rest left mid next p g ch len l i a w.
-          let h = field_no says x in
+      record_no k x n list' = rest_by at n list to (Err k) list' λ e rest left mid next p g ch len l i a w.
+          let h = read_no says x in
           read_by (byte s at) _ g λ c at1 e1 r1. absurd (let z : ◌≡◌ {A = ℕ} 0 1 = cc in omega arith)
 
-      module _ (code at1 : ℕ) (x : m ≡ field.Is code at1) where
-        pub record-operator : (r : Record) → eqb code 17 ≡ true → WritesOperator s at1 t list to r list1 → WritesRecord s t loops is at list to r list1
+      module _ (code at1 : ℕ) (x : m ≡ Ok (code, at1)) where
+        pub record-operator : (r : Part) → eqb code 17 ≡ true → WritesOperator s at1 t list to r list1 → WritesRecord s t loops is at list to r list1
         unfolding WritesOperator
-        record-operator r q h = h at loops is (field-got says x ∙ ap (λ (c : ℕ). got c at1) (eqb-true code 17 q))
+        record-operator r q h = h at loops is (read-got says x ∙ ap (λ (c : ℕ). got c at1) (eqb-true code 17 q))
 
         leaf_count : (q : ℕ) (e : Expr) (mid : ℕ) → leaf_of s at1 t loops is code q s at1 ≡ got e mid → count e ≡ 1
         unfolding read_of literal_of constant_of subscripts count
@@ -152,28 +149,28 @@ module _ (s : List ℕ) (t : Tables) (loops : ℕ) (is : List ℤ) where
 
         leaf_is : (q left : ℕ) (e : Expr) (mid : ℕ) → eqb code 17 ≡ false → node t loops (applied t loops left) s at ≡ got e mid → leaf_of s at1 t loops is code at s at1 ≡ got e mid
         unfolding node
-        leaf_is q left e mid z g = let b : byte s at ≡ got code at1 = field-got says x in rw (b, z) at g
+        leaf_is q left e mid z g = let b : byte s at ≡ got code at1 = read-got says x in rw (b, z) at g
 
-        module _ (z : eqb code 17 ≡ false) (v : Wrote) (y : WritesLeaf s at1 t loops is code list to v list1) where
-          pub record_leaf_no : (k : ℕ) → v ≡ wrote.No k → WritesRecord s t loops is at list to (rec.No k) list1
+        module _ (z : eqb code 17 ≡ false) (v : Part) (y : WritesLeaf s at1 t loops is code list to v list1) where
+          pub record_leaf_no : (k : Refusal) → v ≡ Err k → WritesRecord s t loops is at list to (Err k) list1
           unfolding WritesRecord WritesLeaf forest
-          record_leaf_no k q n list' = rest_by at n list to (wrote.No k) list' λ e rest left mid next p g ch len l i a w.
-              go e rest p next mid (tree e t p (take loops is)) (subst (λ (v : Wrote). WroteIs tree_words list to mid (tree e t p (take loops is)) v list1) q (y at e mid p (leaf_is at left e mid z g) l i a (omega arith)))
+          record_leaf_no k q n list' = rest_by at n list to (Err k) list' λ e rest left mid next p g ch len l i a w.
+              go e rest p next mid (tree e t p (take loops is)) (subst (λ (v : Part). WroteIs tree_words list to mid (tree e t p (take loops is)) v list1) q (y at e mid p (leaf_is at left e mid z g) l i a (omega arith)))
             where
-              go : (e : Expr) (rest : List Expr) (p next mid : ℕ) (m : Ran Tree) → WroteIs tree_words list to mid m (wrote.No k) list1 →
-                  WroteIs (λ ws. ws) list to next (m >>= λ x. forest s t loops is rest p >>= λ ws. ok (tree_words x ++ ws)) (wrote.No k) list'
+              go : (e : Expr) (rest : List Expr) (p next mid : ℕ) (m : Ran Tree) → WroteIs tree_words list to mid m (Err k) list1 →
+                  WroteIs (λ ws. ws) list to next (m >>= λ x. forest s t loops is rest p >>= λ ws. ok (tree_words x ++ ws)) (Err k) list'
               go e rest p next mid (ok x) h = absurd h
               go e rest p next mid (stop j q) h = h
 
-          pub record_leaf : (b c : ℕ) → v ≡ wrote.To b c → WritesRecord s t loops is at list to (rec.Of b 0) list1
+          pub record_leaf : (b c : ℕ) → v ≡ Ok (b, c) → WritesRecord s t loops is at list to (Ok (b, 0)) list1
           unfolding WritesRecord WritesLeaf WritesRest forest
           record_leaf b c q n r list' h = rest_by at n list to r list' λ e rest left mid next p g ch len l i a w.
               let g1 = leaf_is at left e mid z g in
               go e rest p next mid (leaf_count at e mid g1) ch len l i a w (tree e t p (take loops is)) refl
-              (subst (λ (v : Wrote). WroteIs tree_words list to mid (tree e t p (take loops is)) v list1) q (y at e mid p g1 l i a (omega arith)))
+              (subst (λ (v : Part). WroteIs tree_words list to mid (tree e t p (take loops is)) v list1) q (y at e mid p g1 l i a (omega arith)))
             where
               go : (e : Expr) (rest : List Expr) (p next mid : ℕ) → count e ≡ 1 → Chain s t loops is mid rest next → length rest ≡ n → loops ≤ 8 → length is ≡ 8 → allowed_tables t ≡ true
-                  → to + 3 * (count e + total rest) ≤ length list → (m : Ran Tree) → tree e t p (take loops is) ≡ m → WroteIs tree_words list to mid m (wrote.To b c) list1 →
+                  → to + 3 * (count e + total rest) ≤ length list → (m : Ran Tree) → tree e t p (take loops is) ≡ m → WroteIs tree_words list to mid m (Ok (b, c)) list1 →
                   WroteIs (λ ws. ws) list to next (m >>= λ x. forest s t loops is rest p >>= λ ws. ok (tree_words x ++ ws)) r list'
               go e rest p next mid one ch len l i a w (ok x) f k =
                   let wc = words_count t p (take loops is) e x f in
@@ -184,15 +181,8 @@ module _ (s : List ℕ) (t : Tables) (loops : ℕ) (is : List ℤ) where
                   (h rest next p (subst (λ (q : ℕ). Chain s t loops is q rest next) (sym place) ch) (omega arith) l i a (omega arith))
               go e rest p next mid one ch len l i a w (stop j q) f k = absurd k
 
-          pub record_leafed : (r : Record) → r ≡ leaf_record v → WritesRecord s t loops is at list to r list1
-          record_leafed r e = subst (λ (r : Record). WritesRecord s t loops is at list to r list1) (sym e) (go v refl)
-            where
-              go : (u : Wrote) → v ≡ u → WritesRecord s t loops is at list to (leaf_record u) list1
-              go (wrote.To b c) q = record_leaf b c q
-              go (wrote.No k) q = record_leaf_no k q
-
 -- behind an operator's code
-module _ (s : List ℕ) (at : ℕ) (t : Tables) (list : List ℕ) (to : ℕ) (list1 : List ℕ) (m : Field) (says : field_says m ≡ index (length t.operators) s at) where
+module _ (s : List ℕ) (at : ℕ) (t : Tables) (list : List ℕ) (to : ℕ) (list1 : List ℕ) (m : Result (ℕ × ℕ) Refusal) (says : read_says m ≡ index (length t.operators) s at) where
   -- the operator that stands there, and its arguments
   operator_by : {P : Type 0} (place loops left : ℕ) {e : Expr} {mid : ℕ} → byte s place ≡ got 17 at → node t loops (applied t loops left) s place ≡ got e mid →
       ((less o at1 : ℕ) (es : Exprs) → index (length t.operators) s at ≡ got o at1 → times none more (node t loops (applied t loops less)) (arity_at t.operators o) s at1 ≡ got es mid → apply o es ≡ e → P) → P
@@ -208,22 +198,22 @@ module _ (s : List ℕ) (at : ℕ) (t : Tables) (list : List ℕ) (to : ℕ) (li
           let u : apply o es ≡ e = cc in
           f less o at1 es e1 (e2 ∙ ap (got es) v) u
 
-  pub operator_no : (k q j : ℕ) → m ≡ field.Not k q → WritesOperator s at t list to (rec.No j) list1
+  pub operator_no : (k : Refusal) → m ≡ Err k → WritesOperator s at t list to (Err k) list1
   unfolding WritesOperator WritesRecord
-  operator_no k q j x place loops is b n list' = rest_by s t loops is place n list to (wrote.No j) list' λ e rest left mid next p g ch len l i a w.
-      let h = field_no says x in
+  operator_no k x place loops is b n list' = rest_by s t loops is place n list to (Err k) list' λ e rest left mid next p g ch len l i a w.
+      let h = read_no says x in
       operator_by place loops left b g λ less o at1 es e1 e2 u. absurd (let z : ◌≡◌ {A = ℕ} 0 1 = cc in omega arith)
 
-  module _ (o at1 n : ℕ) (x : m ≡ field.Is o at1) (d : n ≡ arity_at t.operators o) where
+  module _ (o at1 n : ℕ) (x : m ≡ Ok (o, at1)) (d : n ≡ arity_at t.operators o) where
     found : index (length t.operators) s at ≡ got o at1
-    found = field-got says x
+    found = read-got says x
 
-    pub operator-many : (j : ℕ) → 4 < n → WritesOperator s at t list to (rec.No j) list1
+    pub operator-many : (j : Refusal) → 4 < n → WritesOperator s at t list to (Err j) list1
     unfolding WritesOperator WritesRecord
-    operator-many j h place loops is b k list' = rest_by s t loops is place k list to (wrote.No j) list' λ e rest left mid next p g ch len l i a w.
+    operator-many j h place loops is b k list' = rest_by s t loops is place k list to (Err j) list' λ e rest left mid next p g ch len l i a w.
         absurd (let v = arity_few 2 (get_or t.operators o 0) (every_at operator_byte t.operators 0 o (tables-parts t a).bytes (index_below (length t.operators) s at found)) in omega arith)
 
-    pub operator_is : (word : ℕ) → (o < 4294967296 → word ≡ o) → list1 ≡ sets list to (17 ∷ word ∷ 0 ∷ []) → WritesOperator s at t list to (rec.Of at1 n) list1
+    pub operator_is : (word : ℕ) → (o < 4294967296 → word ≡ o) → list1 ≡ sets list to (17 ∷ word ∷ 0 ∷ []) → WritesOperator s at t list to (Ok (at1, n)) list1
     unfolding WritesOperator WritesRecord WritesRest count
     operator_is word y f place loops is b k r list' h = rest_by s t loops is place k list to r list' λ e rest left mid next p g ch len l i a w.
         operator_by place loops left b g λ less o1 at2 es e1 e2 u.
@@ -250,32 +240,25 @@ module _ (s : List ℕ) (at : ℕ) (t : Tables) (list : List ℕ) (to : ℕ) (li
         (h (listed es ++ rest) next p (chain_append s t loops is (listed es) rest at1 mid next v.0 ch) (omega arith) l i a (omega arith))))
 
 -- ---- the loop over records
-module _ (s : List ℕ) (t : Tables) (loops : ℕ) (is : List ℤ) (at n : ℕ) (some : 0 < n) (list : List ℕ) (to : ℕ) (r : Record) (list1 : List ℕ) (w : WritesRecord s t loops is at list to r list1) where
+module _ (s : List ℕ) (t : Tables) (loops : ℕ) (is : List ℤ) (at n : ℕ) (some : 0 < n) (list : List ℕ) (to : ℕ) (r : Part) (list1 : List ℕ) (w : WritesRecord s t loops is at list to r list1) where
   again : n ≡ suc (n - 1)
   again = omega arith
 
-  pub rest_stop : (k : ℕ) (list' : List ℕ) → r ≡ rec.No k → WritesRest s t loops is at n list to (wrote.No k) list'
+  pub rest_stop : (k : Refusal) (list' : List ℕ) → r ≡ Err k → WritesRest s t loops is at n list to (Err k) list'
   unfolding WritesRecord
   rest_stop k list' e =
-      subst (λ (n : ℕ). WritesRest s t loops is at n list to (wrote.No k) list') (sym again)
-      (subst (λ (r : Record). WritesRecord s t loops is at list to r list1) e w (n - 1) list')
+      subst (λ (n : ℕ). WritesRest s t loops is at n list to (Err k) list') (sym again)
+      (subst (λ (r : Part). WritesRecord s t loops is at list to r list1) e w (n - 1) list')
 
-  pub rest_step : (next m : ℕ) → r ≡ rec.Of next m → (v : Wrote) (list' : List ℕ) → WritesRest s t loops is next (n - 1 + m) list1 (to + 3) v list' → WritesRest s t loops is at n list to v list'
+  pub rest_step : (next m : ℕ) → r ≡ Ok (next, m) → (v : Part) (list' : List ℕ) → WritesRest s t loops is next (n - 1 + m) list1 (to + 3) v list' → WritesRest s t loops is at n list to v list'
   unfolding WritesRecord
   rest_step next m e v list' h =
       let c : n - 1 + m ≡ m + (n - 1) = omega arith in
       subst (λ (n : ℕ). WritesRest s t loops is at n list to v list') (sym again)
-      (subst (λ (r : Record). WritesRecord s t loops is at list to r list1) e w (n - 1) v list' (subst (λ (j : ℕ). WritesRest s t loops is next j list1 (to + 3) v list') c h))
+      (subst (λ (r : Part). WritesRecord s t loops is at list to r list1) e w (n - 1) v list' (subst (λ (j : ℕ). WritesRest s t loops is next j list1 (to + 3) v list') c h))
 
-pub roomy_is : (to room : ℕ) (r : Record) (at n : ℕ) → Roomy to room r → r ≡ rec.Of at n → (to + 3 ≤ room) × (n ≤ 4)
-roomy_is to room r at n h e = subst (λ (r : Record). Roomy to room r) e h
+pub roomy_is : (to room : ℕ) (r : Part) (at n : ℕ) → Roomy to room r → r ≡ Ok (at, n) → (to + 3 ≤ room) × (n ≤ 4)
+roomy_is to room r at n h e = subst (λ (r : Part). Roomy to room r) e h
 
-pub ends_is : (to room : ℕ) (r : Wrote) (at end : ℕ) → Ends to room r → r ≡ wrote.To at end → (to ≤ end) × (end ≤ room)
-ends_is to room r at end h e = subst (λ (r : Wrote). Ends to room r) e h
-
-pub leaf_roomy : (to room : ℕ) (v : Wrote) (r : Record) → to + 3 ≤ room → r ≡ leaf_record v → Roomy to room r
-leaf_roomy to room v r h e = subst (λ (r : Record). Roomy to room r) (sym e) (go v)
-  where
-    go : (v : Wrote) → Roomy to room (leaf_record v)
-    go (wrote.To at end) = (h, omega arith)
-    go (wrote.No k) = tt
+pub ends_is : (to room : ℕ) (r : Part) (at end : ℕ) → Ends to room r → r ≡ Ok (at, end) → (to ≤ end) × (end ≤ room)
+ends_is to room r at end h e = subst (λ (r : Part). Ends to room r) e h

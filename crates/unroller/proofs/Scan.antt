@@ -22,69 +22,26 @@ use Rattle.unroller.proofs.Accepted.{Declared, DeclaredAll}
 use Rattle.unroller.proofs.Stands.{bases-length, bases-sorted, proper-inside}
 use Rattle.unroller.proofs.Records.{spot-below}
 
--- the code's tests of a cell
-module _ (bases : List ℕ) (a c : ℕ) where
-  pub spot-array : 16 < a → 2048 ≡ spot bases a c
-  spot-array h = rw (lt-ltb 16 a h) refl
-
-  pub spot_base : a ≤ 16 → 2048 < get_or bases a 0 → 2048 ≡ spot bases a c
-  spot_base h g = rw (le-ltb 16 a h, lt-ltb 2048 (get_or bases a 0) g) refl
-
-  pub spot-cell : a ≤ 16 → get_or bases a 0 ≤ 2048 → 2048 < c → 2048 ≡ spot bases a c
-  spot-cell h g l = rw (le-ltb 16 a h, le-ltb 2048 (get_or bases a 0) g, lt-ltb 2048 c l) refl
-
-  pub spot_all : a ≤ 16 → get_or bases a 0 ≤ 2048 → c ≤ 2048 → get_or bases a 0 + c ≡ spot bases a c
-  spot_all h g l = rw (le-ltb 16 a h, le-ltb 2048 (get_or bases a 0) g, le-ltb 2048 c l) refl
-
-  module _ (t : Tables) (flags : List ℕ) where
-    pub read_in : (array_at t.arrays a).role ≡ 0 → true ≡ may_read t bases flags a c
-    unfolding may_read
-    read_in e = rw e refl
-
-    pub read_inout : (array_at t.arrays a).role ≡ 2 → true ≡ may_read t bases flags a c
-    unfolding may_read
-    read_inout e = rw e refl
-
-    module _ (x : (array_at t.arrays a).role ≡ 0 → ⊥) (y : (array_at t.arrays a).role ≡ 2 → ⊥) (k : ℕ) (e : k ≡ spot bases a c) where
-      pub read_flag : k < 2048 → eqb (get_or flags k 0) 1 ≡ may_read t bases flags a c
-      unfolding may_read
-      read_flag h = rw (ne_eqb (array_at t.arrays a).role 0 x, ne_eqb (array_at t.arrays a).role 2 y, ← e, lt-ltb k 2048 h) refl
-
-      pub read_none : 2048 ≤ k → false ≡ may_read t bases flags a c
-      unfolding may_read
-      read_none h = rw (ne_eqb (array_at t.arrays a).role 0 x, ne_eqb (array_at t.arrays a).role 2 y, ← e, le-ltb k 2048 h) refl
-
 module _ (f : ℕ → ℕ → Bool) where
   -- a record of the list
   module _ (list : List ℕ) (at : ℕ) where
-    pub record-read : eqb (get_or list at 0) 16 ≡ true → (x y : ℕ) → x ≡ get_or list (at + 1) 0 → y ≡ get_or list (at + 2) 0 → f x y ≡ record_fine f (drop at list)
-    record-read e x y p q =
-        let z : at + 0 ≡ at = omega arith in
-        rw (get_or-drop at list 0 0, get_or-drop at list 1 0, get_or-drop at list 2 0, z, e, ← p, ← q) refl
-
-    pub record-other : eqb (get_or list at 0) 16 ≡ false → true ≡ record_fine f (drop at list)
-    record-other e =
-        let z : at + 0 ≡ at = omega arith in
-        rw (get_or-drop at list 0 0, z, e) refl
-
     -- the loop over n records
     pub scan_end : (n : ℕ) → n ≡ 0 → true ≡ scanned f n (drop at list)
     unfolding scanned
     scan_end zero e = refl
     scan_end (suc n) e = absurd (omega arith)
 
-    pub scan_stop : (n : ℕ) (r : Bool) → 0 < n → r ≡ record_fine f (drop at list) → r ≡ false → false ≡ scanned f n (drop at list)
+    pub scan_stop : (n : ℕ) → 0 < n → false ≡ record_fine f (drop at list) → false ≡ scanned f n (drop at list)
     unfolding scanned
-    scan_stop zero r h e q = absurd (omega arith)
-    scan_stop (suc n) r h e q = let z : record_fine f (drop at list) ≡ false = sym e ∙ q in ap (λ (b : Bool). b && scanned f n (drop 3 (drop at list))) (sym z)
+    scan_stop zero h e = absurd (omega arith)
+    scan_stop (suc n) h e = ap (λ (b : Bool). b && scanned f n (drop 3 (drop at list))) e
 
-    pub scan_step : (n m : ℕ) (r : Bool) → n ≡ suc m → r ≡ record_fine f (drop at list) → r ≡ true → scanned f m (drop (at + 3) list) ≡ scanned f n (drop at list)
+    pub scan_step : (n m next : ℕ) → n ≡ suc m → next ≡ at + 3 → true ≡ record_fine f (drop at list) → scanned f m (drop next list) ≡ scanned f n (drop at list)
     unfolding scanned
-    scan_step zero m r h e q = absurd (omega arith)
-    scan_step (suc n) m r h e q =
-        let z : record_fine f (drop at list) ≡ true = sym e ∙ q in
+    scan_step zero m next h g e = absurd (omega arith)
+    scan_step (suc n) m next h g e =
         let w : m ≡ n = omega arith in
-        ap₂ (scanned f) w (sym (drop-drop 3 at list)) ∙ ap (λ (b : Bool). b && scanned f n (drop 3 (drop at list))) (sym z)
+        ap₂ (scanned f) w (ap (λ (i : ℕ). drop i list) g ∙ sym (drop-drop 3 at list)) ∙ ap (λ (b : Bool). b && scanned f n (drop 3 (drop at list))) e
 
   -- all reads of a tree have the property
   unfoldable mutual
@@ -145,7 +102,10 @@ module _ (t : Tables) (bases : List ℕ) (parts : TablesParts t) (based : Based 
       let few = within-high 1 16 (length t.arrays) parts.count in
       let k = spot-below t a c parts h in
       let e = based a (omega (arith, q.array)) in
-      sym (spot_all bases a c (omega (arith, q.array)) (omega arith) (omega arith)) ∙ ap (λ (n : ℕ). n + c) e
+      let few_arrays : a ≤ 16 = omega (arith, q.array) in
+      let few_bases : get_or bases a 0 ≤ 2048 = omega arith in
+      let few_cells : c ≤ 2048 = omega arith in
+      rw (le-ltb 16 a few_arrays, le-ltb 2048 (get_or bases a 0) few_bases, le-ltb 2048 c few_cells, e) refl
 
   pub may_is : (flags : List ℕ) (us : List Update) → ((a c : ℕ) → inside t.arrays a c ≡ true → eqb (get_or flags (at a c) 0) 1 ≡ written us a c) →
       (a c : ℕ) → inside t.arrays a c ≡ true → may_read t bases flags a c ≡ (starts (array_at t.arrays a) || written us a c)

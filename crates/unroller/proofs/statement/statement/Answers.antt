@@ -2,26 +2,32 @@ use native.Mathlib.Omega.{arith}
 use mathlib.Core.Path.{refl, ap, ◌∙◌}
 use Prim.Native.Nat.{ℕ, ◌+◌}
 use Rattle.reader.specs.Grammar.{index}
+use Rattle.unroller.specs.Scopes.{bytes}
+use Rattle.unroller.proofs.Values.{handed}
 use Rattle.unroller.proofs.Updating.{asked_19, no_code, no_list, many-nodes, no_array, asked_20, updates_it}
 use Rattle.unroller.proofs.statement.statement.Goals as goal
 
-pub returns-then-updates-gt2047 : goal.returns-then-updates-gt2047
-returns-then-updates-gt2047 c = asked_19 _ _ _ _ _ _ _ _ _ _ _ _ refl c.if-updates-gt2047.true
+pub returns-then-before-gt2047 : goal.returns-then-before-gt2047
+returns-then-before-gt2047 c = asked_19 _ _ _ _ _ _ _ _ _ c.at.ensures refl c.if-before-gt2047.true
 
-pub returns-then-program-at : goal.returns-then-program-at
-returns-then-program-at c = no_code _ _ _ _ _ _ _ _ _ _ _ _ c.if-program-at.true
+pub returns-then-scope-at : goal.returns-then-scope-at
+returns-then-scope-at c = no_code _ _ _ _ _ _ _ _ c.if-scope-at.true
 
 pub returns-then-list-lt-LIST_WORDS : goal.returns-then-list-lt-LIST_WORDS
-returns-then-list-lt-LIST_WORDS c = no_list _ _ _ _ _ _ _ _ _ _ _ _ c.if-list-lt-LIST_WORDS.true
+returns-then-list-lt-LIST_WORDS c = no_list _ _ _ _ _ _ _ _ c.if-list-lt-LIST_WORDS.true
 
-pub returns-then-nodes-gt-MOST_NODES : goal.returns-then-nodes-gt-MOST_NODES
-returns-then-nodes-gt-MOST_NODES c = many-nodes _ _ _ _ _ _ _ _ _ _ _ _ c.if-nodes-gt-MOST_NODES.true
+pub returns-then-before-gt-MOST_NODES : goal.returns-then-before-gt-MOST_NODES
+returns-then-before-gt-MOST_NODES c = many-nodes _ _ _ _ _ _ _ _ c.if-before-gt-MOST_NODES.true
+
+pub returns-in_err-array : goal.returns-in_err-array
+returns-in_err-array c =
+    rw (handed c.from_residual.ensures)
+    (no_array _ _ _ _ _ _ _ _ c.index_at.result (c.index_at.ensures ∙ ap (λ (n : ℕ). index n (bytes c.args.scope.now) (c.args.at + 1)) c.array_count.ensures) _ c.in_err-array.was)
 
 pub returns-then-not-few_nodes : goal.returns-then-not-few_nodes
-returns-then-not-few_nodes c = asked_20 _ _ _ _ _ _ _ _ _ _ _ _ c.index_at.result (c.index_at.ensures ∙ ap (λ (n : ℕ). index n c.args.program.now (c.args.at + 1)) c.array_count.ensures) _ _ c.in-Is.is c.few_nodes.result c.few_nodes.ensures (c.if-not-few_nodes.true) (omega arith) refl
+returns-then-not-few_nodes c =
+    asked_20 _ _ _ _ _ _ _ _ c.index_at.result (c.index_at.ensures ∙ ap (λ (n : ℕ). index n (bytes c.args.scope.now) (c.args.at + 1)) c.array_count.ensures) _ _ c.in_ok-array.was c.few_nodes.result c.few_nodes.ensures c.if-not-few_nodes.true (omega arith) _ c.at-then-not-few_nodes.ensures refl
 
-pub returns-in-Not : goal.returns-in-Not
-returns-in-Not c = no_array _ _ _ _ _ _ _ _ _ _ _ _ c.index_at.result (c.index_at.ensures ∙ ap (λ (n : ℕ). index n c.args.program.now (c.args.at + 1)) c.array_count.ensures) _ _ c.in-Not.is
-
-pub returns-else-not-few_nodes : goal.returns-else-not-few_nodes
-returns-else-not-few_nodes c = updates_it _ _ _ _ _ _ _ _ _ _ _ _ c.index_at.result (c.index_at.ensures ∙ ap (λ (n : ℕ). index n c.args.program.now (c.args.at + 1)) c.array_count.ensures) _ _ c.in-Is.is c.few_nodes.result c.few_nodes.ensures (c.if-not-few_nodes.false) c.update.ensures
+pub returns : goal.returns
+returns c =
+    updates_it _ _ _ _ _ _ _ _ c.index_at.result (c.index_at.ensures ∙ ap (λ (n : ℕ). index n (bytes c.args.scope.now) (c.args.at + 1)) c.array_count.ensures) _ _ c.in_ok-array.was c.few_nodes.result c.few_nodes.ensures c.if-not-few_nodes.false c.update.ensures

@@ -1,3 +1,4 @@
+use native.Mathlib.Omega.{arith}
 use Rattle.unroller.proofs.Records.{leaf_read, leaf_literal, leaf_constant, leaf_none}
 use Rattle.unroller.proofs.statement.write_leaf.Goals as goal
 
@@ -11,4 +12,4 @@ pub returns-in-19 : goal.returns-in-19
 returns-in-19 c = leaf_constant _ _ _ _ _ _ _ _ _ _ c.in-19.is c.write_constant.ensures
 
 pub returns-in_default : goal.returns-in_default
-returns-in_default c = let r = c.in_default.in_default-own.rest in leaf_none _ _ _ _ _ _ _ _ _ _ r.0.0.1 r.0.1 r.1
+returns-in_default c = leaf_none _ _ _ _ _ _ _ _ _ _ (λ e. omega arith) (λ e. omega arith) (λ e. omega arith)
