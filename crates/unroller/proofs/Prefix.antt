@@ -1,6 +1,5 @@
 -- An expression written node by node in prefix order: what each record leaves to be written, and the loop over them.
 use Rattle.std.specs.Prelude.{Result, Ok, Err}
-use Rattle.model.specs.Questions.{number_of}
 use Rattle.model.specs.declared.question.Refusal.{Refusal}
 use mathlib.Core.Path.{◌≡◌, refl, sym, ap, ap₂, ◌∙◌, subst}
 use Prim.Native.Nat.{ℕ, zero, suc, ◌+◌, ◌-◌, ◌*◌, ◌≤◌, ◌<◌}

@@ -1,6 +1,5 @@
 -- An expression's records in the list: what each writer leaves, from what it called.
 use Rattle.std.specs.Prelude.{Result, Ok, Err}
-use Rattle.model.specs.Questions.{number_of}
 use Rattle.model.specs.declared.question.Refusal.{Refusal}
 use mathlib.Core.Path.{◌≡◌, refl, sym, ap, ap₂, ◌∙◌, subst}
 use Prim.Native.Nat.{ℕ, suc, ◌+◌, ◌*◌, ◌≤◌, ◌<◌}

@@ -5,9 +5,9 @@ use native.Mathlib.Omega.{arith}
 use mathlib.Core.List.{List, [], ◌∷◌, ◌++◌, append_assoc}
 use mathlib.Core.Bool.{Bool, true, false, ◌&&◌, ◌||◌, and_assoc, and-true, or_assoc, or-false, or-true}
 use lib.ListN.{length, get_or, drop, set}
-use lib.Seq.{get_or-drop, drop-drop, get_or-set_same, get_or-set_other}
+use lib.Seq.{drop-drop, get_or-set_same, get_or-set_other}
 use lib.Dec.{ltb, eqb}
-use borrow.Author.Tests.{ltb-true, ltb-false, le-ltb, lt-ltb, eqb-true, eqb-false, ne_eqb}
+use borrow.Author.Tests.{ltb-true, ltb-false, le-ltb, lt-ltb, eqb-true, eqb-false}
 use Rattle.model.specs.Tables.{Tables, array_at, starts, inside}
 use Rattle.model.specs.Update.{Tree, Trees, Update, size, sizes, writes, written}
 use Rattle.model.specs.Update.Tree.{cell, number, constant, operator}

@@ -15,7 +15,6 @@ use lib.IntN.{ℤ, pos}
 use lib.Signed.{le_z, lt_z}
 use borrow.Author.Tests.{ne_eqb, le-leb}
 use Rattle.model.specs.Tables.{Tables}
-use Rattle.model.specs.declared.question.Question.{Question}
 use Rattle.model.specs.declared.question.Refusal.{Refusal}
 use Rattle.reader.specs.Field.{Outcome, got}
 use Rattle.reader.specs.Syntax.{Form, Expr, Item, Items, count}
@@ -76,11 +75,11 @@ range_kept : (u : Ends) (z : ℤ) (to : ℕ) (r : Result Range Refusal) {x : Ran
 range_kept u z to (Ok y) h q = sym (some_same q) ∙ h
 range_kept u z to (Err g) h q = absurd h
 
-cell_lost : {P : Type 0} (c z : ℕ) (r : Result (ℕ × ℕ) Question) → CellIs (ok c) z r → result_ok r ≡ None → P
+cell_lost : {P : Type 0} (c z : ℕ) (r : Result (ℕ × ℕ) Refusal) → CellIs (ok c) z r → result_ok r ≡ None → P
 cell_lost c z (Ok p) h q = none_some (sym q)
 cell_lost c z (Err k) h q = absurd h
 
-cell_kept : (c z : ℕ) (r : Result (ℕ × ℕ) Question) {found to : ℕ} → CellIs (ok c) z r → result_ok r ≡ Some (found, to) → (found ≡ c) × (to ≡ z)
+cell_kept : (c z : ℕ) (r : Result (ℕ × ℕ) Refusal) {found to : ℕ} → CellIs (ok c) z r → result_ok r ≡ Some (found, to) → (found ≡ c) × (to ≡ z)
 cell_kept c z (Ok p) h q = let k = some_same q in (sym (ap (λ (p : ℕ × ℕ). p.0) k) ∙ h.0, sym (ap (λ (p : ℕ × ℕ). p.1) k) ∙ h.1)
 cell_kept c z (Err k) h q = absurd h
 
@@ -347,7 +346,7 @@ module _ (scope : Scope) (at : ℕ) (element : Element) (w : Maybe Writer) where
     no_array case i next d d' h few eight ran = statement-ran i next d d' h ran λ b fs x y z c e1 e2 e3 l r1.
         read_lost f₀ (says ∙ ap (λ (m : ℕ). index m (bytes scope) (at + 1)) many ∙ e1) case
 
-    module _ (b y : ℕ) (case : result_ok f₀ ≡ Some (b, y)) (c₀ : Result (ℕ × ℕ) Question) (cells : CellOf (bytes scope) y (tables scope) scope.loops scope.indices b c₀) where
+    module _ (b y : ℕ) (case : result_ok f₀ ≡ Some (b, y)) (c₀ : Result (ℕ × ℕ) Refusal) (cells : CellOf (bytes scope) y (tables scope) scope.loops scope.indices b c₀) where
       -- the target, and its cell
       target-ran : {P : Type 0} (i : Item) (next : ℕ) (d d' : Done) → statement_of (tables scope) scope.loops at (bytes scope) (at + 1) ≡ got i next → scope.loops ≤ 8 → Eight scope.loops scope.indices → run i (tables scope) (around scope) d ≡ ok d'
           → ((fs : List Form) (x : Expr) (z c : ℕ) → expression (tables scope) scope.loops (bytes scope) z ≡ got x next → i ≡ statement at b fs x → cell_at (tables scope) at (around scope) b fs ≡ ok c → CellIs (ok c) z c₀ → P) → P

@@ -3,7 +3,7 @@ use Rattle.std.specs.Prelude.{Result, Ok, Err}
 use Rattle.model.specs.Questions.{number_of}
 use Rattle.model.specs.declared.question.Refusal.{Refusal}
 use mathlib.Core.Path.{◌≡◌, refl, sym, ap, ap₂, ◌∙◌, subst}
-use Prim.Native.Nat.{ℕ, ◌+◌, ◌-◌, ◌*◌, ◌/◌, ◌≤◌, ◌<◌}
+use Prim.Native.Nat.{ℕ, ◌+◌, ◌*◌, ◌/◌, ◌≤◌, ◌<◌}
 use native.Mathlib.Omega.{arith}
 use mathlib.Core.List.{List, [], ◌∷◌, ◌++◌, append_assoc}
 use mathlib.Core.Bool.{Bool, true, false, not}
@@ -11,12 +11,12 @@ use lib.ListN.{length, get_or, take, drop, set, length-append, length-set, lengt
 use lib.Seq.{sets, sets-eq, length-sets, drop_at}
 use lib.Dec.{ltb, leb, eqb}
 use lib.IntN.{ℤ, pos, negsuc}
-use borrow.Author.Tests.{le-leb, lt-leb, lt-ltb, le-ltb, ltb-true, ltb-false, leb-true, leb-false}
+use borrow.Author.Tests.{le-leb, lt-leb, ltb-true, ltb-false, leb-true, leb-false}
 use Rattle.model.specs.Tables.{Tables, array_at, inside}
 use Rattle.model.specs.Update.{Tree, Update, size}
 use Rattle.model.specs.Update.Tree.{cell as cell_of, operator}
 use Rattle.model.specs.Update.Trees.{cons}
-use Rattle.reader.specs.Field.{Bytes, Outcome, got, no, times}
+use Rattle.reader.specs.Field.{Outcome, got, no, times}
 use Rattle.reader.specs.Syntax.{Form, Expr, Exprs, count}
 use Rattle.reader.specs.Syntax.Expr.{read, apply, literal, named}
 use Rattle.reader.specs.Syntax.Exprs.{none, more}

@@ -1,6 +1,5 @@
 -- Loops and guards of the walk: the parts of a loop's run, and what the private functions answer for them.
-use Rattle.std.specs.Prelude.{ℕ, ◌+◌, ◌≤◌, ◌<◌, ◌≡◌, ◌&&◌, List, [], ◌∷◌, ◌++◌, length, leb, ℤ, pos, Result, Ok, Err, Option, Some, None, if◌then◌else◌}
-use Rattle.model.specs.Tables.{Tables}
+use Rattle.std.specs.Prelude.{ℕ, ◌+◌, ◌≤◌, ◌<◌, ◌≡◌, ◌&&◌, List, [], ◌∷◌, ◌++◌, length, leb, ℤ, pos, Result, Ok, Err, Option, Some, if◌then◌else◌}
 use Rattle.model.specs.Questions.{number_of}
 use Rattle.model.specs.declared.question.Refusal.{Refusal}
 use Rattle.model.specs.declared.question.Question.TheVariants as question

@@ -1,5 +1,5 @@
 use mathlib.Core.Logic.{inl, inr}
-use mathlib.Core.Path.{ap, ◌∙◌}
+use mathlib.Core.Path.{ap}
 use Rattle.model.specs.Questions.{number_of}
 use Rattle.model.specs.declared.question.Refusal.{Refusal}
 use Rattle.unroller.proofs.Cells.{extent-outside, extent-inside}

@@ -1,4 +1,3 @@
-use Rattle.unroller.proofs.Values.{handed}
 use Rattle.unroller.proofs.Updating.{source_no, behind_no, behind_is}
 use Rattle.unroller.proofs.statement.nodes_behind.Goals as goal
 

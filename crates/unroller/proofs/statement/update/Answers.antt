@@ -1,8 +1,7 @@
-use native.Mathlib.Omega.{arith}
 use mathlib.Core.Path.{refl}
-use Prim.Native.Nat.{◌+◌, ◌-◌, ◌*◌}
+use Prim.Native.Nat.{◌+◌, ◌*◌}
 use Rattle.unroller.proofs.CheckUpdates.{third}
-use Rattle.unroller.proofs.Updating.{run_no, run_unread, run_on, within_is, thirds_fit}
+use Rattle.unroller.proofs.Updating.{run_no, run_unread, run_on}
 use Rattle.unroller.proofs.statement.update.Goals as goal
 
 pub returns-in-Err : goal.returns-in-Err
