@@ -35,9 +35,9 @@ use Rattle.unroller.specs.declared.entry.UnrollError.TheVariants.{Refused, Short
 use Rattle.unroller.specs.declared.origins.Element.{Element}
 use Rattle.unroller.specs.declared.origins.Writer.{Writer}
 use Rattle.unroller.proofs.Runs.{unrolls}
-use Rattle.unroller.proofs.UnrollRun.{program_by, read-not, read_first, outermost, lent}
+use Rattle.unroller.proofs.UnrollRun.{program_by, held, read_first, outermost, lent}
 use Rattle.unroller.proofs.WalkItems.{none_some}
-use Rattle.unroller.proofs.Traces.{or_none, ok_is}
+use Rattle.unroller.proofs.Traces.{or_none, ok_is, read_lost}
 
 -- ---- from the tables to the writer
 -- what the code tells of a writer is the reply's
@@ -48,11 +48,7 @@ told_is (some o) = refl
 module _ (program : Bor (List ℕ)) (r : Result (Packed × ℕ) Refusal) (says : through unpacked (read_says r) ≡ tables_step program.now) (holds : read_says r ≡ through packed (tables_step program.now)) (element : Element) where
   pub found-not : result_ok r ≡ None → (w : Maybe Writer) → Found program.now element.array element.cell w
   unfolding Found
-  found-not c w l u = let h = unrolls program.now l u in program_by program.now h.is_read λ t m js end e1 e2 _. lost r refl
-    where
-      lost : {P : Type 0} (q : Result (Packed × ℕ) Refusal) → r ≡ q → P
-      lost (Ok x) q = none_some (sym c ∙ ap result_ok q)
-      lost (Err g) q = let h = unrolls program.now l u in program_by program.now h.is_read λ t m js end e1 e2 _. read-not program.now r says holds t m e1 q
+  found-not c w l u = let h = unrolls program.now l u in program_by program.now h.is_read λ t m js end e1 e2 _. read_lost r (held program.now r says holds t m e1) c
 
   module _ (T : Packed) (first : ℕ) (case : result_ok r ≡ Some (T, first)) (numbers : Bor (List ℕ)) (made : numbers.now ≡ flattened T) (small : Words 48 T.extents) (to : Maybe ℕ) (w : Maybe Writer)
       (ran : TracesItems (outermost program numbers) first 8 element None to w) where
@@ -64,13 +60,11 @@ module _ (program : Bor (List ℕ)) (r : Result (Packed × ℕ) Refusal) (says :
     unfolding TracesItems Seen body run_program origin_of execution
     walked l u =
         let h = unrolls program.now l u in
-        let s = program.now in
         program_by program.now h.is_read λ t m js end e1 e2 x.
         let y = lent program [] r says holds T first c numbers made small t m e1 in
         let z = read_first program.now r says holds t m e1 T first c in
-        let v : TracesItems (outermost program numbers) first 8 element None to w = ran in
         let d : runs js t [] nothing ≡ ok h.done = subst (λ (p : Program). run_program p ≡ ok h.done) x h.ran in
-        let k = v js end (length program.now) nothing h.done
+        let k = ran js end (length program.now) nothing h.done
         (subst (λ (u : Tables). body u (length program.now) 8 0 program.now first ≡ got js end) (sym y) (ap (λ (at : ℕ). body t (length program.now) 8 0 program.now at) z ∙ e2))
         (omega arith) (record { long = refl; zeros = refl }) (subst (λ (u : Tables). runs js u [] nothing ≡ ok h.done) (sym y) d) in
         let o : origin_of program.now element.array element.cell ≡ origin_at program.now t (last (writes_to t element.array element.cell) (executeds js [])) =

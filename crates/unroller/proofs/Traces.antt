@@ -260,7 +260,6 @@ module _ (scope : Scope) (left less at : ℕ) (element : Element) (w : Maybe Wri
     unfolding TracesNested TracesRounds executed
     loop-runs u case v i next d d' q b8 eight ran = loop-ran i next d d' q ran λ f g z m n to js e1 e2 e3 e4 l good r1.
         let h = range_kept (record { first = value_at f (around scope); last = value_at g (around scope) }) z to r₀ (ranged e1 e2 e3 (omega arith) eight.long good) case in
-        let k : Range = record { first = value_at f (around scope); last = value_at g (around scope); step = z; body = to } in
         subst (λ (i : Item). Passed (bytes scope) (tables scope) element.array element.cell next (executed i (around scope)) w r w') (sym l)
         (subst
         (λ (u : Range). Passed (bytes scope) (tables scope) element.array element.cell next (each (λ k. executeds js (around scope ++ (k ∷ []))) (indices 65536 u.step u.last u.first)) w r w')

@@ -72,7 +72,7 @@ flat_based t T numbers made holds few a h =
 
 -- the tables as the code has them
 module _ (s : List ℕ) (r : Result (Packed × ℕ) Refusal) (says : through unpacked (read_says r) ≡ tables_step s) (holds : read_says r ≡ through packed (tables_step s)) (t : Tables) (m : ℕ) (e : tables_step s ≡ got t m) where
-  held : read_says r ≡ got (packed t) m
+  pub held : read_says r ≡ got (packed t) m
   unfolding through
   held = holds ∙ ap (through packed) e
 
