@@ -1,5 +1,5 @@
 // What the walk over a program's items hands on.
-ghost use Rattle.std.specs.Prelude.{◌≡◌, ◌<◌, set};
+ghost use Rattle.std.specs.Prelude.{◌≡◌, ◌<◌};
 ghost use Rattle.unroller.specs.Scopes.{inside};
 
 use model::question::Refusal;
