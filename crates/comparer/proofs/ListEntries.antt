@@ -15,8 +15,10 @@ use Rattle.model.specs.Reply as model
 use Rattle.model.specs.Memory.{list_words, cell_words, term_words, cleared, work_left}
 use Rattle.unroller.specs.Decode.{decode, accepted}
 use Rattle.unroller.specs.CheckAnswers.{checked_says}
-use Rattle.unroller.specs.declared.lists.Checked.{Checked}
-use Rattle.unroller.specs.declared.lists.Checked.TheVariants as checked
+use Rattle.std.specs.Prelude.{Result, Ok, Err}
+use Rattle.std.specs.Result.{is_ok}
+use Rattle.unroller.specs.declared.lists.ListError.{ListError}
+use Rattle.unroller.specs.declared.lists.ListError.TheVariants as check
 use Rattle.unroller.specs.Unroll as Unroll
 use Rattle.unroller.specs.Unroll.{check_reply}
 use Rattle.unroller.proofs.Parts as parts
@@ -71,10 +73,10 @@ module _ (w : List ℕ) where
         by true f = absurd (let g = check_is true f in let z : ◌≡◌ {A = ℕ} 0 1 = cc in omega arith)
         by false f = sym f
 
-    pub says-other : (r : Checked) → (r ≡ checked.Accepted → ⊥) → checked_says r ≡ check_reply w → false ≡ accepted w
-    says-other checked.Accepted n e = absurd (n refl)
-    says-other checked.Refused n e = says-refused 26 model.left e
-    says-other checked.Short n e = says-refused 25 model.both e
+    pub says-ok : (r : Result (Unit {0}) ListError) → checked_says r ≡ check_reply w → is_ok r ≡ accepted w
+    says-ok (Ok x) e = says-accepted e
+    says-ok (Err check.Refused) e = says-refused 26 model.left e
+    says-ok (Err check.Short) e = says-refused 25 model.both e
 
   pub decoded_held : (l : Listed) → decode w ≡ some l → Held w l
   decoded_held l e = record { stands = stands w l e; allows = (layout-decode w l e).1 }

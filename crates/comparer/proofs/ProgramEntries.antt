@@ -24,7 +24,8 @@ use Rattle.comparer.specs.Laying.{Lays, Ended}
 use Rattle.comparer.specs.Entry.{programs_by, input_by}
 use Rattle.comparer.specs.Headers.{Counted}
 use Rattle.std.specs.Prelude.{Ok, Err}
-use Rattle.comparer.specs.declared.programs.Refusal.{Refusal}
+use Rattle.model.specs.Questions.{number_of}
+use Rattle.model.specs.declared.question.Refusal.{Refusal}
 use Rattle.comparer.specs.declared.reply.Reply.{Reply}
 use Rattle.comparer.proofs.ListEntries.{decoded_held, held-counted}
 use Rattle.comparer.proofs.Clearing.{ended-layout, ended-zeros}
@@ -47,13 +48,13 @@ module _ (program list : List ℕ) (h : list_words ≤ length list) where
       by (ok l) f g = (l, f, decoded_held words l (ap decode (w ∙ leaves_is l f) ∙ decode-layout l (length list) (unrolled-allowed program l b f)))
       by (stop question place) f g = absurd (let z : ◌≡◌ {A = ℕ} 0 1 = cc in omega arith)
 
-  pub lays_not : (question place : ℕ) (s : model.Side) (words : List ℕ) → Unroll.refused s question place ≡ unroll_reply program (length list) → Lays program words (Err (record { question = question; place = place }))
+  pub lays_not : (refusal : Refusal) (s : model.Side) (words : List ℕ) → Unroll.refused s (number_of refusal.question) refusal.place ≡ unroll_reply program (length list) → Lays program words (Err refusal)
   unfolding Lays
-  lays_not question place s words e = by (unrolled program) refl (e ∙ reply_is)
+  lays_not refusal s words e = by (unrolled program) refl (e ∙ reply_is)
     where
-      by : (o : Ran Listed) → unrolled program ≡ o → Unroll.refused s question place ≡ unroll_reply_by o → unrolled program ≡ stop question place
+      by : (o : Ran Listed) → unrolled program ≡ o → Unroll.refused s (number_of refusal.question) refusal.place ≡ unroll_reply_by o → unrolled program ≡ stop (number_of refusal.question) refusal.place
       by (ok l) f g = absurd (let z : ◌≡◌ {A = ℕ} 0 1 = cc in omega arith)
-      by (stop question' place') f g = cc
+      by (stop question place) f g = cc
 
   pub leaves-ended : (words : List ℕ) → ((i : ℕ) → get_or program i 0 < 256) → words ≡ unroll_leaves program list → Ended words
   unfolding unroll_leaves
@@ -65,11 +66,11 @@ module _ (program list : List ℕ) (h : list_words ≤ length list) where
 
 -- two programs
 module _ (left right : List ℕ) (mask : Listed → ℕ) where
-  pub left_not : (refusal : Refusal) (words : List ℕ) → Lays left words (Err refusal) → model.refused model.left refusal.question refusal.place ≡ programs_by mask left right
+  pub left_not : (refusal : Refusal) (words : List ℕ) → Lays left words (Err refusal) → model.refused model.left (number_of refusal.question) refusal.place ≡ programs_by mask left right
   unfolding Lays programs_by
   left_not refusal words e = rw e
 
-  pub right_not : (refusal : Refusal) (one other : List ℕ) → Lays left one (Ok tt) → Lays right other (Err refusal) → model.refused model.right refusal.question refusal.place ≡ programs_by mask left right
+  pub right_not : (refusal : Refusal) (one other : List ℕ) → Lays left one (Ok tt) → Lays right other (Err refusal) → model.refused model.right (number_of refusal.question) refusal.place ≡ programs_by mask left right
   unfolding Lays programs_by
   right_not refusal one other (l, e, h) f = rw (e, f)
 

@@ -5,7 +5,8 @@ use Rattle.unroller.specs.Run.{ok, stop}
 use Rattle.unroller.specs.Unroll.{unrolled}
 use Rattle.comparer.specs.Entry.{out_mask}
 use Rattle.comparer.specs.Asked.{Held}
-use Rattle.comparer.specs.declared.programs.Refusal.{Refusal}
+use Rattle.model.specs.Questions.{number_of}
+use Rattle.model.specs.declared.question.Refusal.{Refusal}
 
 -- the mask of a comparison, as the left's list tells it
 abbrev pub mask_by : Option ℕ → Listed → ℕ
@@ -19,7 +20,7 @@ Masks m words bits = (l : Listed) → Held words l → bits ≡ mask_by m l
 -- a program's list stands in the slice, or the program is refused
 unfoldable pub Lays : List ℕ → List ℕ → Result (Unit {0}) Refusal → Type 0
 Lays program words (Ok done) = (l : Listed) × (unrolled program ≡ ok l) × Held words l
-Lays program words (Err refusal) = unrolled program ≡ stop refusal.question refusal.place
+Lays program words (Err refusal) = unrolled program ≡ stop (number_of refusal.question) refusal.place
 
 -- A list as the unroller leaves it, laid out or empty: zeros stand behind a record that begins with 0, and behind the longest list.
 pub record Ended (words : List ℕ) : Type 0 where

@@ -1,7 +1,7 @@
 // The explanation of a difference: the stretch of the left or the right program's bytes that wrote the element last.
 ghost use Rattle.std.specs.Prelude.{◌≡◌, length, leb, min, take};
 ghost use Rattle.model.specs.Memory.{list_words, work_left};
-ghost use Rattle.unroller.specs.OriginReply.{origin_reply, source_says};
+ghost use Rattle.unroller.specs.OriginReply.{origin_reply};
 ghost use Rattle.comparer.specs.Answers.{reply_says};
 ghost use Rattle.comparer.specs.Entry.{EntryAnswers, left_in, right_in};
 ghost use Rattle.comparer.specs.Explain.{plain, explanation, input_masked_explanation, input_explanation};
@@ -10,7 +10,7 @@ ghost use Rattle.comparer.specs.ExplainAnswers.{chosen_says, chosen_of, answer_s
 use crate::programs::{compare_input, compare_input_masked, compare_programs_masked};
 use crate::reply::{Reply, Side};
 use reader::fields::pair;
-use unroller::{Source, origin_of};
+use unroller::{UnrollError, origin_of};
 
 // The side that a caller asks about.
 #[derive(Clone, Copy, Debug, PartialEq, Eq)]
@@ -61,30 +61,28 @@ fn no_stretch(answer: Answer) -> Explanation
     }
 }
 
-fn answer_by(source: Source, array: usize, cell: usize) -> Answer
-    ensures { answer_says result ≡ answer_by array cell (source_says source) }
-{
-    match source {
-        Source::Written => Answer::Written(array, cell),
-        Source::Starting => Answer::Starting(array, cell),
-        Source::Refused(number, place) => Answer::Refused(Side::Left, number, place),
-        Source::Short => Answer::Refused(Side::Both, 25, 0),
-    }
-}
-
 // Of an element of one program.
 fn traced(program: &[u8], array: usize, cell: usize, list: &mut [u32]) -> Explanation
     ensures says { explanation_says result ≡ explanation_by array cell (origin_reply program.now array cell (length list.old)) }
     ensures leaves { list.new ≡ work_left (leb list_words (length list.old)) list.old }
 {
-    let origin = origin_of(program, array, cell, list);
-    let indices = origin.indices;
-    Explanation {
-        answer: answer_by(origin.source, array, cell),
-        from: origin.from,
-        to: origin.to,
-        count: origin.count,
-        indices,
+    match origin_of(program, array, cell, list) {
+        Ok(Some(writer)) => {
+            let indices = writer.indices;
+            Explanation {
+                answer: Answer::Written(array, cell),
+                from: writer.from,
+                to: writer.to,
+                count: writer.count,
+                indices,
+            }
+        }
+        Ok(None) => no_stretch(Answer::Starting(array, cell)),
+        Err(UnrollError::Refused(refusal)) => {
+            let number = u8::from(refusal.question);
+            no_stretch(Answer::Refused(Side::Left, number, refusal.place))
+        }
+        Err(UnrollError::Short) => no_stretch(Answer::Refused(Side::Both, 25, 0)),
     }
 }
 

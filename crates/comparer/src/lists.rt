@@ -12,7 +12,7 @@ use crate::reply::{Reply, Side};
 use crate::tables::{Unequal, tables};
 use model::memory::clear;
 use model::sizes::{CELL_WORDS, LIST_WORDS, TERM_WORDS};
-use unroller::{Checked, check_list};
+use unroller::check_list;
 
 // Question 25, of the lengths of two lists and of the work memory.
 pub(crate) fn long_enough(left: usize, right: usize, cells: usize, terms: usize) -> bool
@@ -47,7 +47,7 @@ fn is_accepted(list: &[u32]) -> bool
     requires { list_words ≤ length list.now }
     ensures { result ≡ accepted list.now }
 {
-    matches!(check_list(list), Checked::Accepted)
+    check_list(list).is_ok()
 }
 
 // 26 of the left, then of the right, then 22 to 24.

@@ -6,8 +6,9 @@ use crate::memory::clear_used;
 use crate::reply::{Reply, Side};
 use crate::tables::out_bits;
 use model::memory::clear;
+use model::question::{Question, Refusal};
 use reader::fields::pair;
-use unroller::{Unrolled, unroll};
+use unroller::{UnrollError, unroll};
 
 // The mask of many pairs.
 const ALL_BITS: u16 = 65535;
@@ -33,25 +34,15 @@ fn mask_of(mask: Option<u16>, list: &[u32]) -> u16
     }
 }
 
-// Question and place of a program's refusal.
-#[derive(Clone, Copy, Debug, PartialEq, Eq)]
-pub(crate) struct Refusal {
-    pub(crate) question: u8,
-    pub(crate) place: usize,
-}
-
 fn lay_out(program: &[u8], list: &mut [u32]) -> Result<(), Refusal>
     requires { list_words ≤ length list.old }
     ensures lays { Lays program.now list.new result }
     ensures ended { Ended list.new }
 {
     match unroll(program, list) {
-        Unrolled::Updates(_) => Ok(()),
-        Unrolled::Refused(question, place) => Err(Refusal { question, place }),
-        Unrolled::Short => Err(Refusal {
-            question: 25,
-            place: 0,
-        }),
+        Ok(_) => Ok(()),
+        Err(UnrollError::Refused(refusal)) => Err(refusal),
+        Err(UnrollError::Short) => Err(Question::Memory.at(0)),
     }
 }
 
@@ -71,10 +62,10 @@ fn unrolled_reply(
 {
     if let Err(refusal) = lay_out(left, left_list) {
         clear(right_list);
-        return Reply::Refused(Side::Left, refusal.question, refusal.place);
+        return Reply::Refused(Side::Left, u8::from(refusal.question), refusal.place);
     }
     if let Err(refusal) = lay_out(right, right_list) {
-        return Reply::Refused(Side::Right, refusal.question, refusal.place);
+        return Reply::Refused(Side::Right, u8::from(refusal.question), refusal.place);
     }
     let bits = mask_of(mask, left_list);
     compared(left_list, right_list, bits, cells, terms)

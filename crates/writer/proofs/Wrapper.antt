@@ -14,8 +14,11 @@ use Rattle.unroller.specs.Words.{Out, got, none, is_got}
 use Rattle.unroller.specs.Decode.{list, list_of, decode, accepted}
 use Rattle.unroller.specs.Unroll.{accepts, refuses, check_reply}
 use Rattle.writer.specs.Write.{refused, answered_by, write_reply, write_leaves}
-use Rattle.writer.specs.Answers.{written_says, Writes}
-use Rattle.std.specs.Prelude.{Result}
+use Rattle.unroller.specs.CheckAnswers.{checked_says}
+use Rattle.unroller.specs.declared.lists.ListError.{ListError}
+use Rattle.unroller.specs.declared.lists.ListError.TheVariants as check
+use Rattle.writer.specs.Answers.{written_says, unlisted, Writes}
+use Rattle.std.specs.Prelude.{Result, Err}
 use Rattle.writer.specs.declared.entry.WriteError.{WriteError}
 use Rattle.writer.proofs.Replies.{untouched}
 
@@ -73,3 +76,8 @@ module _ (w out : List ℕ) where
   pub accepted-writes : leb list_words (length w) ≡ true → (r : Result ℕ WriteError) (out' : List ℕ) → Writes w out r out' → (written_says r ≡ write_reply w (length out)) × (out' ≡ write_leaves w out)
   unfolding write_reply write_leaves
   accepted-writes h r out' z = rw h (z.says, z.leaves)
+
+  -- a list that is refused before it is looked at
+  pub unlisted-writes : (e : ListError) → checked_says (Err e) ≡ check_reply w → (written_says (Err (unlisted e)) ≡ write_reply w (length out)) × (out ≡ write_leaves w out)
+  unlisted-writes check.Short e = short-writes (checked-short w e)
+  unlisted-writes check.Refused e = let h = checked_refused w e in unknown_writes h.0 h.1

@@ -6,6 +6,8 @@ use Rattle.unroller.specs.Decode.{decode}
 use Rattle.writer.specs.Records.{records_bytes, KnownAll, sized, wide, measured}
 use Rattle.writer.specs.Head.{head_bytes, version_at}
 use Rattle.writer.specs.Write.{Written, file, refused, answered_by, left_by}
+use Rattle.unroller.specs.declared.lists.ListError.{ListError}
+use Rattle.unroller.specs.declared.lists.ListError.TheVariants as list
 use Rattle.writer.specs.declared.records.Size.{Size}
 use Rattle.writer.specs.declared.records.WideLiteral.{WideLiteral}
 use Rattle.writer.specs.declared.entry.WriteError.{WriteError}
@@ -49,6 +51,11 @@ written_says (Err error.Short) = refused both 25 0
 written_says (Err error.Refused) = refused left 26 0
 written_says (Err (error.Wide place)) = refused left 28 place
 written_says (Err error.Long) = refused left 29 0
+
+-- of a list that is refused before it is looked at
+abbrev pub unlisted : ListError → WriteError
+unlisted list.Short = error.Short
+unlisted list.Refused = error.Refused
 
 -- the whole file, word by word
 unfoldable pub file_bytes : List ℕ → ℕ → List ℕ

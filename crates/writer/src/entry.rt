@@ -5,12 +5,12 @@ ghost use Rattle.unroller.specs.Decode.{accepted};
 ghost use Rattle.writer.specs.Write.{write_reply, write_leaves};
 ghost use Rattle.writer.specs.Records.{KnownAll};
 ghost use Rattle.writer.specs.Head.{HeadKnown};
-ghost use Rattle.writer.specs.Answers.{written_says, file_bytes, Writes};
+ghost use Rattle.writer.specs.Answers.{written_says, unlisted, file_bytes, Writes};
 
 use crate::head::{head_size, version_of, write_head};
 use crate::records::{measure, write_statements};
 use model::sizes::MOST_BYTES;
-use unroller::{Checked, check_list};
+use unroller::{ListError, check_list};
 
 // Why a list is no file. Short: 25. Refused: 26. Wide: 28, with the first update that has such a literal. Long: 29.
 #[derive(Clone, Copy, Debug, PartialEq, Eq)]
@@ -30,6 +30,17 @@ fn write_all(list: &[u32], n: usize, out: &mut [u8])
     let head = write_head(list, version, out);
     let size = write_statements(list, n, &mut out[head..]);
     out[head + size] = 0;
+}
+
+impl From<ListError> for WriteError {
+    ghost from_gives = { λ l e. e ≡ unlisted l };
+
+    fn from(error: ListError) -> WriteError {
+        match error {
+            ListError::Short => WriteError::Short,
+            ListError::Refused => WriteError::Refused,
+        }
+    }
 }
 
 // An accepted list. 28 and 29 are asked before anything is written.
@@ -58,9 +69,6 @@ pub fn write_file(list: &[u32], out: &mut [u8]) -> Result<usize, WriteError>
     ensures reply { written_says result ≡ write_reply list.now (length out.old) }
     ensures leaves { out.new ≡ write_leaves list.now out.old }
 {
-    match check_list(list) {
-        Checked::Short => Err(WriteError::Short),
-        Checked::Refused => Err(WriteError::Refused),
-        Checked::Accepted => write_accepted(list, out),
-    }
+    check_list(list)?;
+    write_accepted(list, out)
 }
