@@ -20,7 +20,7 @@ use comparer::reply::{Reply, Side};
 use comparer::{
     Answer, Chosen, Explanation, compare_lists, compare_programs, compare_programs_masked, explain,
 };
-use unroller::{Checked, Unrolled, check_list, unroll};
+use unroller::{ListError, UnrollError, check_list, unroll};
 use writer::{WriteError, write_file};
 
 // Kind 0, equal: how many elements were compared (of `unroll` the updates, of `check_list` 0, of `write_file` the bytes). 1, differs: array and cell.
@@ -82,23 +82,23 @@ fn reply_numbers(reply: Reply) -> Numbers
     }
 }
 
-fn unrolled_numbers(answer: Unrolled) -> Numbers
+fn unrolled_numbers(answer: Result<usize, UnrollError>) -> Numbers
     ensures { result ≡ unrolled_numbers (unrolled_says answer) }
 {
     match answer {
-        Unrolled::Updates(n) => count(n),
-        Unrolled::Refused(k, p) => refusal(Side::Left, k, p),
-        Unrolled::Short => refusal(Side::Both, 25, 0),
+        Ok(n) => count(n),
+        Err(UnrollError::Refused(r)) => refusal(Side::Left, u8::from(r.question), r.place),
+        Err(UnrollError::Short) => refusal(Side::Both, 25, 0),
     }
 }
 
-fn checked_numbers(answer: Checked) -> Numbers
+fn checked_numbers(answer: Result<(), ListError>) -> Numbers
     ensures { result ≡ checked_numbers (checked_says answer) }
 {
     match answer {
-        Checked::Accepted => count(0),
-        Checked::Refused => refusal(Side::Left, 26, 0),
-        Checked::Short => refusal(Side::Both, 25, 0),
+        Ok(()) => count(0),
+        Err(ListError::Refused) => refusal(Side::Left, 26, 0),
+        Err(ListError::Short) => refusal(Side::Both, 25, 0),
     }
 }
 

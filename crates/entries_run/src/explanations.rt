@@ -5,7 +5,7 @@ use crate::pairs::{say_line, say_side, side_of};
 use comparer::reply::Side;
 use comparer::{Answer, Chosen, Explanation};
 use reader::fields::pair;
-use unroller::{Origin, Source};
+use unroller::{UnrollError, Writer};
 
 pub(crate) fn called(rt: &impl Print, entry: usize, x: Args, s: &[u8]) {
     match entry {
@@ -234,28 +234,21 @@ fn origin_in(rt: &impl Print, x: Args, program: &[u8], list: &mut [u32]) {
     say_sum(rt, &list[0..n]);
 }
 
-fn say_origin(rt: &impl Print, origin: Origin) {
-    let source = origin.source;
-    let indices = origin.indices;
-    say_source(rt, source);
-    say_stretch(rt, origin.from, origin.to, origin.count, indices);
-}
-
-fn say_source(rt: &impl Print, source: Source) {
-    match source {
-        Source::Written => {
+fn say_origin(rt: &impl Print, origin: Result<Option<Writer>, UnrollError>) {
+    match origin {
+        Ok(Some(writer)) => {
             say_kind(rt, 0);
+            let indices = writer.indices;
+            say_stretch(rt, writer.from, writer.to, writer.count, indices);
+            return;
         }
-        Source::Starting => {
-            say_kind(rt, 1);
+        Ok(None) => say_kind(rt, 1),
+        Err(UnrollError::Refused(refusal)) => {
+            say_refusal(rt, Side::Left, u8::from(refusal.question), refusal.place);
         }
-        Source::Refused(k, p) => {
-            say_refusal(rt, Side::Left, k, p);
-        }
-        Source::Short => {
-            say_refusal(rt, Side::Both, 25, 0);
-        }
+        Err(UnrollError::Short) => say_refusal(rt, Side::Both, 25, 0),
     }
+    say_stretch(rt, 0, 0, 0, [0; 8]);
 }
 
 fn line(rt: &impl Print, x: Args, s: &[u8]) {

@@ -1,16 +1,19 @@
 // Entries over parts of a program file, and over the whole.
 use crate::cursor::{left_at, place_at, signed_at};
 use crate::numbers::{
-    Args, refused, say, say_field, say_place, say_signed, say_signed_field, say_small,
+    Args, refused, say, say_number, say_place, say_refusal, say_signed, say_signed_number,
+    say_small,
 };
 use crate::tabled::say_tables;
-use reader::Verdict;
-use reader::tables::FlatTables;
+use model::question::Refusal;
+use reader::fields::Read;
+use reader::forms::Form;
+use reader::tables::{FlatTables, Tables};
 
 // Over tables too.
 pub(crate) fn nested(rt: &impl Print, entry: usize, x: Args, tables: &FlatTables, s: &[u8]) {
     if entry == 18 {
-        say_field(rt, reader::expressions::expression_end(s, x.a, tables, x.b));
+        say_number(rt, reader::expressions::expression_end(s, x.a, tables, x.b));
     } else {
         say_place(rt, reader::items::items_end(s, x.a, tables, x.b, x.c));
     }
@@ -46,7 +49,7 @@ fn standing(rt: &impl Print, entry: usize, x: Args, s: &[u8]) {
             say(rt, left_at(s, x.a));
         }
         26 => {
-            say_signed_field(rt, signed_at(s, x.a));
+            say_signed_number(rt, signed_at(s, x.a));
         }
         _ => {
             refused(rt);
@@ -54,13 +57,26 @@ fn standing(rt: &impl Print, entry: usize, x: Args, s: &[u8]) {
     }
 }
 
+// A form's numbers are 0 where it is refused.
 fn form(rt: &impl Print, s: &[u8], at: usize, loops: usize) {
     let read = reader::forms::form_at(s, at, loops);
-    let answer = read.answer;
-    let c = read.coefficients;
-    say_place(rt, answer);
-    say_signed(rt, read.constant);
-    coefficients(rt, &c);
+    let form = match read {
+        Ok((form, _)) => form,
+        Err(_) => Form {
+            constant: 0,
+            coefficients: [0; 8],
+        },
+    };
+    say_place(rt, past(read));
+    say_signed(rt, form.constant);
+    coefficients(rt, &form.coefficients);
+}
+
+fn past<T: Drop>(read: Read<T>) -> Result<usize, Refusal> {
+    match read {
+        Ok((_, next)) => Ok(next),
+        Err(refusal) => Err(refusal),
+    }
 }
 
 fn coefficients(rt: &impl Print, c: &[i8; 8]) {
@@ -69,23 +85,32 @@ fn coefficients(rt: &impl Print, c: &[i8; 8]) {
     }
 }
 
+// So are those of tables.
 fn head(rt: &impl Print, s: &[u8]) {
     let read = reader::header::tables_of(s);
-    let answer = read.answer;
-    let tables = read.tables;
-    say_place(rt, answer);
+    let tables = match read {
+        Ok((tables, _)) => tables,
+        Err(_) => no_tables(),
+    };
+    say_place(rt, past(read));
     say_tables(rt, tables);
+}
+
+fn no_tables() -> Tables {
+    Tables {
+        operators: 0,
+        bytes: [0; 16],
+        arrays: 0,
+        roles: [0; 16],
+        dimensions: [0; 16],
+        extents: [0; 48],
+        bases: [0; 17],
+    }
 }
 
 fn verdict(rt: &impl Print, s: &[u8]) {
     match reader::read_program(s) {
-        Verdict::Accepted => {
-            say(rt, 1);
-        }
-        Verdict::Refused(number, place) => {
-            say(rt, 0);
-            say(rt, usize::from(number));
-            say(rt, place);
-        }
+        Ok(()) => say(rt, 1),
+        Err(refusal) => say_refusal(rt, refusal),
     }
 }

@@ -1,5 +1,6 @@
 // Numbers from the bytes of a record, and numbers on the line.
-use reader::fields::{Field, Place, Signed};
+use model::question::Refusal;
+use reader::fields::Read;
 
 // The arguments of an entry; one with fewer leaves the last aside.
 #[derive(Clone, Copy)]
@@ -65,46 +66,40 @@ pub(crate) fn say_small(rt: &impl Print, v: i8) {
 }
 
 // A question's number and its place, after the 0 that tells a refusal from an answer.
-fn say_not(rt: &impl Print, number: u8, place: usize) {
+pub(crate) fn say_refusal(rt: &impl Print, refusal: Refusal) {
     say(rt, 0);
-    say(rt, usize::from(number));
-    say(rt, place);
+    say(rt, usize::from(u8::from(refusal.question)));
+    say(rt, refusal.place);
 }
 
-pub(crate) fn say_field(rt: &impl Print, field: Field) {
-    match field {
-        Field::Is(x, next) => {
+pub(crate) fn say_number(rt: &impl Print, read: Read<usize>) {
+    match read {
+        Ok((x, next)) => {
             say(rt, 1);
             say(rt, x);
             say(rt, next);
         }
-        Field::Not(number, place) => {
-            say_not(rt, number, place);
-        }
+        Err(refusal) => say_refusal(rt, refusal),
     }
 }
 
-pub(crate) fn say_signed_field(rt: &impl Print, field: Signed) {
-    match field {
-        Signed::Is(x, next) => {
+pub(crate) fn say_signed_number(rt: &impl Print, read: Read<i16>) {
+    match read {
+        Ok((x, next)) => {
             say(rt, 1);
             say_signed(rt, x);
             say(rt, next);
         }
-        Signed::Not(number, place) => {
-            say_not(rt, number, place);
-        }
+        Err(refusal) => say_refusal(rt, refusal),
     }
 }
 
-pub(crate) fn say_place(rt: &impl Print, place: Place) {
+pub(crate) fn say_place(rt: &impl Print, place: Result<usize, Refusal>) {
     match place {
-        Place::Next(next) => {
+        Ok(next) => {
             say(rt, 1);
             say(rt, next);
         }
-        Place::Not(number, at) => {
-            say_not(rt, number, at);
-        }
+        Err(refusal) => say_refusal(rt, refusal),
     }
 }

@@ -1,6 +1,6 @@
 // Entries over single fields.
 use crate::numbers::{
-    Args, low_byte, low_pair, refused, say, say_bool, say_field, say_signed, say_signed_field,
+    Args, low_byte, low_pair, refused, say, say_bool, say_number, say_signed, say_signed_number,
     say_small,
 };
 use reader::fields::Width;
@@ -39,19 +39,19 @@ fn plain(rt: &impl Print, entry: usize, x: Args, s: &[u8]) {
 fn placed(rt: &impl Print, entry: usize, x: Args, s: &[u8]) {
     match entry {
         5 => {
-            say_field(rt, reader::fields::byte_at(s, x.a));
+            say_number(rt, reader::fields::byte_at(s, x.a));
         }
         6 => {
-            say_field(rt, reader::fields::name_at(s, x.a));
+            say_number(rt, reader::fields::name_at(s, x.a));
         }
         7 => {
-            say_field(rt, reader::fields::index_at(s, x.a, x.b));
+            say_number(rt, reader::fields::index_at(s, x.a, x.b));
         }
         8 => {
-            say_signed_field(rt, reader::fields::step_at(s, x.a));
+            say_signed_number(rt, reader::fields::step_at(s, x.a));
         }
         _ => {
-            say_field(rt, reader::cursor::field_at(s, x.a, width(x.b % 4)));
+            say_number(rt, reader::cursor::field_at(s, x.a, width(x.b % 4)));
         }
     }
 }

@@ -1,11 +1,14 @@
 // The known programs (docs/FORMAT.md, "Known pairs") that are decided by reading, and each question's corners.
 use model::sizes::MOST_BYTES;
-use reader::Verdict;
 
 fn case(rt: &impl Print, name: &str, program: &[u8]) {
     let _ = match reader::read_program(program) {
-        Verdict::Accepted => println!(rt; "{name} accepted"),
-        Verdict::Refused(number, place) => println!(rt; "{name} refused {number} {place}"),
+        Ok(()) => println!(rt; "{name} accepted"),
+        Err(refusal) => {
+            let number = u8::from(refusal.question);
+            let place = refusal.place;
+            println!(rt; "{name} refused {number} {place}")
+        }
     };
 }
 

@@ -1,15 +1,14 @@
 // How many updates and nodes a program gives.
 use model::sizes::{HEADER_WORDS, LIST_WORDS};
-use unroller::Unrolled;
 
 fn case(rt: &impl Print, name: &str, program: &[u8]) {
     let mut list = [0u32; LIST_WORDS];
     match unroller::unroll(program, &mut list) {
-        Unrolled::Updates(updates) => {
+        Ok(updates) => {
             let nodes = nodes(&list);
             let _ = println!(rt; "{name} updates {updates} nodes {nodes}");
         }
-        _ => {
+        Err(_) => {
             let _ = println!(rt; "{name} refused");
         }
     }

@@ -5,7 +5,7 @@
 use comparer::reply::{Reply, Side};
 use console::Console;
 use model::sizes::{LIST_WORDS, MOST_BYTES};
-use unroller::Unrolled;
+use unroller::UnrollError;
 use writer::WriteError;
 
 fn main(rt: HostRuntime) {
@@ -44,9 +44,12 @@ fn answer(console: &Console<'_, impl Print, impl Print + Eprint>, program: &[u8]
 fn straight(program: &[u8], file: &mut [u8]) -> Result<usize, Reply> {
     let mut list = [0u32; LIST_WORDS];
     match unroller::unroll(program, &mut list) {
-        Unrolled::Updates(_) => written(&list, file),
-        Unrolled::Refused(question, place) => Err(Reply::Refused(Side::Left, question, place)),
-        Unrolled::Short => Err(Reply::Refused(Side::Both, 25, 0)),
+        Ok(_) => written(&list, file),
+        Err(UnrollError::Refused(refusal)) => {
+            let number = u8::from(refusal.question);
+            Err(Reply::Refused(Side::Left, number, refusal.place))
+        }
+        Err(UnrollError::Short) => Err(Reply::Refused(Side::Both, 25, 0)),
     }
 }
 
