@@ -4,16 +4,16 @@ ghost use Rattle.std.proofs.lemmas.List.Edits.{sets};
 ghost use Rattle.reader.specs.Entries.{viewed, tables_in};
 ghost use Rattle.unroller.specs.Scopes.{bytes, tables};
 ghost use Rattle.unroller.specs.Walk.{RunsStatement};
-ghost use Rattle.unroller.specs.Writes.{InExtent, Below, Subscript, CellOf, WritesRead, WritesLiteral, WritesConstant, WritesLeaf, WritesOperator, WritesRecord, Roomy, WritesNode, Ends, spot, may_read, record_fine, scanned, Marks, WritesUpdate, Within, Sources, FewNodes, RunsUpdate};
+ghost use Rattle.unroller.specs.Writes.{WritesRead, WritesLiteral, WritesConstant, WritesLeaf, WritesOperator, WritesRecord, Roomy, WritesNode, Ends, spot, may_read, record_fine, scanned, Marks, WritesUpdate, Within, Sources, FewNodes, RunsUpdate};
 ghost use Rattle.model.specs.Memory.{list_words};
 
 use crate::walk::{Flags, Progress, Scope, Walk};
 use model::question::{Question, Refusal};
 use model::sizes::{HEADER_WORDS, LIST_WORDS, MOST_CELLS, MOST_NODES};
 use reader::expressions::{expression_end, forms_end};
-use reader::fields::{Read, byte_at, index_at, name_at};
+use reader::fields::{byte_at, index_at, name_at};
 use reader::tables::{
-    FlatTables, arity_of, array_count, base_of, dimensions_of, extent_of, operator_count, role_of,
+    FlatTables, arity_of, array_count, base_of, dimensions_of, operator_count, role_of,
 };
 
 // The place past an expression, and the word past its records.
@@ -35,49 +35,6 @@ fn word(x: usize) -> u32
     ensures { x < 4294967296 → result ≡ x }
 {
     u32::try_from(x).unwrap_or(0)
-}
-
-// Is the subscript inside its extent? 16. With the extent first LLVM makes one comparison of the two.
-fn in_extent(v: i32, extent: usize, next: usize) -> Read<usize>
-    requires { extent < 65536 }
-    ensures says { InExtent extent v next result }
-    ensures below { Below extent result }
-{
-    if v >= extent as i32 || v < 0 {
-        return Err(Question::Subscript.at(next));
-    }
-    Ok((v as usize, next))
-}
-
-impl<'a> Scope<'a> {
-    // The subscript at `at`.
-    fn subscript_at(&self, at: usize, extent: usize) -> Read<usize>
-        requires { extent < 65536 }
-        ensures says { Subscript (bytes self.now) at self.now.loops self.now.indices extent result }
-        ensures below { Below extent result }
-    {
-        let (v, next) = self.value_at(at)?;
-        in_extent(v, extent, next)
-    }
-
-    // The cell of a declared array at the subscripts that stand at `at`, last fastest.
-    pub(crate) fn cell_at(&self, at: usize, array: usize) -> Read<usize>
-        ensures { CellOf (bytes self.now) at (tables self.now) self.now.loops self.now.indices array result }
-    {
-        // The grammar rules it out; asked here once, it is not asked again for each extent.
-        if array_count(self.tables) <= array {
-            return Err(Question::Subscript.at(at));
-        }
-        let mut cell = 0;
-        let mut next = at;
-        for k in 0..dimensions_of(self.tables, array) {
-            let extent = extent_of(self.tables, array, k);
-            let (v, to) = self.subscript_at(next, extent)?;
-            cell = cell * extent + v;
-            next = to;
-        }
-        Ok((cell, next))
-    }
 }
 
 fn put(list: &mut [u32], to: usize, code: u32, x: u32, y: u32)
