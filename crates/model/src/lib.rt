@@ -1,9 +1,7 @@
 // Tables, update lists and replies, as definitions that all crates share, and the clearing of lent memory.
 #![tactic(auto)]
 
-pub mod byte;
 pub mod memory;
-pub mod numbers;
 pub mod operator;
 pub mod question;
 pub mod sizes;
