@@ -106,7 +106,7 @@ fn written_numbers(answer: Result<usize, WriteError>) -> Numbers
     ensures { result ≡ written_numbers (written_says answer) }
 {
     match answer {
-        Ok(n) => count(n),
+        Ok(length) => count(length),
         Err(WriteError::Short) => refusal(Side::Both, 25, 0),
         Err(WriteError::Refused) => refusal(Side::Left, 26, 0),
         Err(WriteError::Wide(update)) => refusal(Side::Left, 28, update),
