@@ -18,6 +18,7 @@ struct Step<T> {
 }
 
 // A term, stored where it is not yet and where there is room.
+#[tactic(auto, using(crate::proofs::Leaves::kept_some))]
 fn put(terms: &mut [u32], count: u32, kind: u32, payload: u32, ids: [u32; 4]) -> Option<Kept>
     ensures { Keeps (λ count' id. Puts terms.old count kind payload ids count' id terms.new) result }
 {
