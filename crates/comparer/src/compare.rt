@@ -7,6 +7,7 @@ ghost use Rattle.model.specs.Memory.{header_words};
 
 use crate::evaluate::apply_updates;
 use crate::reply::{Reply, Side};
+use model::question::Question;
 use model::sizes::{CELL_WORDS, HEADER_WORDS, MOST_CELLS};
 
 fn role_of(list: &[u32], array: usize) -> u32
@@ -143,7 +144,7 @@ fn first_array(
     let count = list[17] as usize;
     // No list that was checked or unrolled; it must not pass for equal.
     if count > 16 {
-        return Reply::Refused(Side::Left, 26, 0);
+        return Reply::refused(Side::Left, Question::List, 0);
     }
     let mut sum: usize = 0;
     for a in 0..count {
@@ -172,15 +173,15 @@ pub(crate) fn match_lists(
 {
     // 25 is asked before; what it refuses must not pass for equal.
     if left.len() < HEADER_WORDS || right.len() < HEADER_WORDS || cells.len() < CELL_WORDS {
-        return Reply::Refused(Side::Both, 25, 0);
+        return Reply::refused(Side::Both, Question::Memory, 0);
     }
     let lefts = bases_of(left);
     let rights = bases_of(right);
     let Some(n) = apply_updates(left, &lefts, &mut cells[0..MOST_CELLS], terms, 0) else {
-        return Reply::Refused(Side::Both, 24, 0);
+        return Reply::refused(Side::Both, Question::Terms, 0);
     };
     let Some(_) = apply_updates(right, &rights, &mut cells[MOST_CELLS..CELL_WORDS], terms, n) else {
-        return Reply::Refused(Side::Both, 24, 0);
+        return Reply::refused(Side::Both, Question::Terms, 0);
     };
     first_array(
         left,

@@ -11,6 +11,7 @@ use crate::compare::match_lists;
 use crate::reply::{Reply, Side};
 use crate::tables::{Unequal, tables};
 use model::memory::clear;
+use model::question::Question;
 use model::sizes::{CELL_WORDS, LIST_WORDS, TERM_WORDS};
 use unroller::check_list;
 
@@ -33,8 +34,8 @@ pub(crate) fn compared(
     ensures { Asked left.now right.now mask cells.old terms.old result }
 {
     match tables(left, right) {
-        Err(Unequal::Arrays(a)) => Reply::Refused(Side::Both, 22, a),
-        Err(Unequal::Operators(o)) => Reply::Refused(Side::Both, 23, o),
+        Err(Unequal::Arrays(a)) => Reply::refused(Side::Both, Question::Arrays, a),
+        Err(Unequal::Operators(o)) => Reply::refused(Side::Both, Question::Operators, o),
         Ok(()) => {
             clear(cells);
             clear(terms);
@@ -56,10 +57,10 @@ fn checked(left: &[u32], right: &[u32], mask: u16, cells: &mut [u32], terms: &mu
     ensures { reply_says result ≡ decoded_reply mask (decode left.now) (decode right.now) }
 {
     if !is_accepted(left) {
-        return Reply::Refused(Side::Left, 26, 0);
+        return Reply::refused(Side::Left, Question::List, 0);
     }
     if !is_accepted(right) {
-        return Reply::Refused(Side::Right, 26, 0);
+        return Reply::refused(Side::Right, Question::List, 0);
     }
     compared(left, right, mask, cells, terms)
 }
@@ -75,7 +76,7 @@ pub fn compare_lists(
         left.now right.now cells.old terms.old cells.new terms.new }
 {
     if !long_enough(left.len(), right.len(), cells.len(), terms.len()) {
-        return Reply::Refused(Side::Both, 25, 0);
+        return Reply::refused(Side::Both, Question::Memory, 0);
     }
     let reply = checked(left, right, mask, cells, terms);
     clear(cells);

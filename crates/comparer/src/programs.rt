@@ -62,10 +62,10 @@ fn unrolled_reply(
 {
     if let Err(refusal) = lay_out(left, left_list) {
         clear(right_list);
-        return Reply::Refused(Side::Left, u8::from(refusal.question), refusal.place);
+        return Reply::refused(Side::Left, refusal.question, refusal.place);
     }
     if let Err(refusal) = lay_out(right, right_list) {
-        return Reply::Refused(Side::Right, u8::from(refusal.question), refusal.place);
+        return Reply::refused(Side::Right, refusal.question, refusal.place);
     }
     let bits = mask_of(mask, left_list);
     compared(left_list, right_list, bits, cells, terms)
@@ -86,7 +86,7 @@ fn programs_reply(
         left_list.new right_list.new cells.new terms.new }
 {
     if !long_enough(left_list.len(), right_list.len(), cells.len(), terms.len()) {
-        return Reply::Refused(Side::Both, 25, 0);
+        return Reply::refused(Side::Both, Question::Memory, 0);
     }
     let reply = unrolled_reply(left, right, mask, left_list, right_list, cells, terms);
     clear_used(left_list, right_list, cells, terms);
@@ -191,7 +191,7 @@ fn input_reply(
         left_list.new right_list.new cells.new terms.new }
 {
     if !long_enough(left_list.len(), right_list.len(), cells.len(), terms.len()) {
-        return Reply::Refused(Side::Both, 25, 0);
+        return Reply::refused(Side::Both, Question::Memory, 0);
     }
     let reply = framed_reply(input, mask, left_list, right_list, cells, terms);
     clear_used(left_list, right_list, cells, terms);
@@ -241,11 +241,15 @@ fn cut_reply(
         left_list.new right_list.new cells.new terms.new }
 {
     if !long_enough(left_list.len(), right_list.len(), cells.len(), terms.len()) {
-        return Reply::Refused(Side::Both, 25, 0);
+        return Reply::refused(Side::Both, Question::Memory, 0);
     }
     clear(cells);
     clear(terms);
-    unframed(Reply::Refused(Side::Input, 1, 0), left_list, right_list)
+    unframed(
+        Reply::refused(Side::Input, Question::Frame, 0),
+        left_list,
+        right_list,
+    )
 }
 
 // One of many pairs: its lengths, and the bytes behind them. All bits of the mask are set.

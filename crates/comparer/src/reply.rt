@@ -1,4 +1,8 @@
 // The three replies.
+ghost use Rattle.std.specs.Prelude.{◌≡◌};
+ghost use Rattle.model.specs.Questions.{number_of};
+
+use model::question::Question;
 
 // The side that a refusal names.
 #[derive(Clone, Copy, Debug, PartialEq, Eq)]
@@ -16,4 +20,13 @@ pub enum Reply {
     Equal(usize),
     Differs(usize, usize),
     Refused(Side, u8, usize),
+}
+
+impl Reply {
+    // A refusal, its question by name.
+    pub(crate) fn refused(side: Side, question: Question, place: usize) -> Reply
+        ensures { result ≡ Reply.Refused side (number_of question) place }
+    {
+        Reply::Refused(side, u8::from(question), place)
+    }
 }

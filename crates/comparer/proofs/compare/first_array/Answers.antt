@@ -7,7 +7,7 @@ use Rattle.comparer.proofs.compare.first_array.Goals as goal
 use Rattle.comparer.proofs.compare.first_array.Goals.{then-is_compared+else-c-size, else-is_compared}
 
 pub returns-then-count-gt16 : goal.returns-then-count-gt16
-returns-then-count-gt16 c = arrays-many _ _ _ _ _ _ _ _ refl c.if-count-gt16.true _
+returns-then-count-gt16 c = rw c.refused.ensures (arrays-many _ _ _ _ _ _ _ _ refl c.if-count-gt16.true _)
 
 pub loop-a-init : goal.loop-a-init
 loop-a-init c = (omega arith, λ x F. F)

@@ -15,7 +15,7 @@ returns-then-left-lt-HEADER_WORDS c =
 
 pub returns-in_default : goal.returns-in_default
 unfolding Counts
-returns-in_default c = match_full _ _ _ c.args.cells.now _ _ _ c.bases_of-lefts.ensures c.bases_of-rights.ensures c.apply_updates.new.cells _ _ c.in_default.ensures c.if-cells-lt-CELL_WORDS.false (omega arith)
+returns-in_default c = rw c.refused-in_default.ensures (match_full _ _ _ c.args.cells.now _ _ _ c.bases_of-lefts.ensures c.bases_of-rights.ensures c.apply_updates.new.cells _ _ c.in_default.ensures c.if-cells-lt-CELL_WORDS.false (omega arith))
 
 pub apply_updates-requires-2 : goal.apply_updates-requires-2
 unfolding Counts
@@ -24,8 +24,8 @@ apply_updates-requires-2 c = (c.if-right-lt-HEADER_WORDS.false, c.in-Some.ensure
 pub returns-in_default-apply_updates : goal.returns-in_default-apply_updates
 unfolding Counts
 returns-in_default-apply_updates c =
-    let n = c.in-Some.ensures in
-    match_over _ _ _ c.args.cells.now _ _ _ c.bases_of-lefts.ensures c.bases_of-rights.ensures c.apply_updates.new.cells _ _ n.1 c.if-cells-lt-CELL_WORDS.false n.0 (search rules) c.apply_updates-2.new.cells _ _ c.in_default-apply_updates.ensures (omega arith)
+    rw c.refused-in_default-apply_updates.ensures (let n = c.in-Some.ensures in
+    match_over _ _ _ c.args.cells.now _ _ _ c.bases_of-lefts.ensures c.bases_of-rights.ensures c.apply_updates.new.cells _ _ n.1 c.if-cells-lt-CELL_WORDS.false n.0 (search rules) c.apply_updates-2.new.cells _ _ c.in_default-apply_updates.ensures (omega arith))
 
 pub returns : goal.returns
 unfolding Counts

@@ -6,8 +6,8 @@ use Rattle.comparer.proofs.lists.compare_lists.Goals as goal
 
 pub returns-then-not-long_enough : goal.returns-then-not-long_enough
 returns-then-not-long_enough c =
-    let s = c.args in
-    (words-short s.mask s.left.now s.right.now (length s.cells.now) (length s.terms.now) (sym c.long_enough.ensures ∙ c.if-not-long_enough.true), work_kept _ _ (sym c.long_enough.ensures ∙ c.if-not-long_enough.true), work_kept _ _ (sym c.long_enough.ensures ∙ c.if-not-long_enough.true))
+    rw c.refused.ensures (let s = c.args in
+    (words-short s.mask s.left.now s.right.now (length s.cells.now) (length s.terms.now) (sym c.long_enough.ensures ∙ c.if-not-long_enough.true), work_kept _ _ (sym c.long_enough.ensures ∙ c.if-not-long_enough.true), work_kept _ _ (sym c.long_enough.ensures ∙ c.if-not-long_enough.true)))
 
 pub checked-reply-requires : goal.checked-reply-requires
 checked-reply-requires c = (sym c.long_enough.ensures ∙ c.if-not-long_enough.false)

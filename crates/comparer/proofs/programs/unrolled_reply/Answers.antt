@@ -6,10 +6,10 @@ use Rattle.comparer.proofs.ProgramEntries.{lays_counted, left_not, right_not, bo
 use Rattle.comparer.proofs.programs.unrolled_reply.Goals as goal
 
 pub returns-in-Err-clause-result_value : goal.returns-in-Err-clause-result_value
-returns-in-Err-clause-result_value c = rw c.from.ensures (left_not c.args.left.now c.args.right.now (mask_by c.args.mask) _ c.lay_out.new.list c.in-Err.ensures.lays)
+returns-in-Err-clause-result_value c = rw c.refused.ensures (left_not c.args.left.now c.args.right.now (mask_by c.args.mask) _ c.lay_out.new.list c.in-Err.ensures.lays)
 
 pub returns-in-Err-lay_out-clause-result_value : goal.returns-in-Err-lay_out-clause-result_value
-returns-in-Err-lay_out-clause-result_value c = rw c.from-in-Err-lay_out.ensures (right_not c.args.left.now c.args.right.now (mask_by c.args.mask) _ c.lay_out.new.list c.lay_out-2.new.list c.in_default.ensures.lays c.in-Err-lay_out.ensures.lays)
+returns-in-Err-lay_out-clause-result_value c = rw c.refused-in-Err-lay_out.ensures (right_not c.args.left.now c.args.right.now (mask_by c.args.mask) _ c.lay_out.new.list c.lay_out-2.new.list c.in_default.ensures.lays c.in-Err-lay_out.ensures.lays)
 
 pub mask_of-bits-requires : goal.mask_of-bits-requires
 mask_of-bits-requires c = lays_counted c.args.left.now c.lay_out.new.list c.in_default.ensures.lays
