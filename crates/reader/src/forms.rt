@@ -1,34 +1,43 @@
 // Affine forms: a constant, and a coefficient for each enclosing loop.
-ghost use Rattle.std.specs.Prelude.{◌≡◌, ◌+◌, ◌*◌, ◌/◌, ◌%◌, ◌≤◌, ◌<◌, length, replicate, pos};
+ghost use Rattle.std.specs.Prelude.{◌≡◌, ◌+◌, ◌*◌, ◌/◌, ◌%◌, ◌≤◌, ◌<◌, length, replicate, pos, leb, if◌then◌else◌};
+ghost use Rattle.model.specs.declared.question.Question.TheVariants as question;
 ghost use Rattle.reader.specs.Grammar.{form};
 ghost use Rattle.reader.specs.Answers.{through, ended, place_says, read_says};
 ghost use Rattle.std.specs.Int.{w8};
 ghost use Rattle.std.proofs.Common.{to_z};
 ghost use Rattle.reader.specs.Entries.{padded, signeds, bytes_of, Before, form_step, form_in, filled};
 
-use crate::fields::{Read, has, i8_of, i16_of, pair};
+use crate::fields::{Read, has, i8_of, i16_of, left_at, pair};
 use model::question::{Question, Refusal};
 
-// Coefficients beyond the loops are 0.
+// Coefficients beyond the loops are 0. They stand first: behind the constant they would be moved with the padding that follows them,
+// in parts and by way of memory.
 #[derive(Clone, Copy, Debug, PartialEq, Eq)]
 pub struct Form {
-    pub constant: i16,
     pub coefficients: [i8; 8],
+    pub constant: i16,
 }
 
-// The end of a form. Each coefficient is a field of one byte, so the first that is missing stands at the end of the bytes.
+// Where a form is cut. Each coefficient is a field of one byte, so the first that is missing stands at the end of the bytes.
+fn cut_form(s: &[u8], at: usize) -> Refusal
+    ensures { result ≡ record { question = question.Cut; place = if leb (at + 2) (length s.now) then length s.now else at } }
+{
+    if has(s, at, 2) {
+        Question::Cut.at(s.len())
+    } else {
+        Question::Cut.at(at)
+    }
+}
+
+// The end of a form.
 #[tactic(auto, using(crate::proofs::Affine::form_all, crate::proofs::Affine::form_cut, crate::proofs::Affine::form_short), unfolding(crate::specs::Answers::through))]
 pub(crate) fn form_end(s: &[u8], at: usize, loops: usize) -> Result<usize, Refusal>
     ensures { place_says result ≡ ended (form loops s.now at) }
 {
-    if has(s, at, 2) {
-        if has(s, at + 2, loops) {
-            Ok(at + 2 + loops)
-        } else {
-            Err(Question::Cut.at(s.len()))
-        }
+    if has(s, at, 2) && has(s, at + 2, loops) {
+        Ok(at + 2 + loops)
     } else {
-        Err(Question::Cut.at(at))
+        Err(cut_form(s, at))
     }
 }
 
@@ -109,10 +118,13 @@ pub fn form_at(s: &[u8], at: usize, loops: usize) -> Read<Form>
     if 8 < loops {
         return Err(Question::Depth.at(at));
     }
-    let end = form_end(s, at, loops)?;
+    // One test for all of its bytes; which of them is missing is asked behind it.
+    if left_at(s, at) < 2 + loops {
+        return Err(cut_form(s, at));
+    }
     let form = Form {
         constant: i16_of(pair(s[at], s[at + 1])),
         coefficients: coefficients_of(s, at + 2, loops),
     };
-    Ok((form, end))
+    Ok((form, at + 2 + loops))
 }
