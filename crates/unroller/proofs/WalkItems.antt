@@ -27,7 +27,7 @@ use Rattle.reader.proofs.Bytes.{byte_is, byte-not}
 use Rattle.unroller.specs.Run.{Ran, ok, stop, ◌>>=◌, ask, value_at, fits16, Done, goes_on, indices, rounds, run, runs}
 use Rattle.unroller.specs.Forms.{Values}
 use Rattle.unroller.specs.Scopes.{bytes, tables, around, inside}
-use Rattle.unroller.specs.Walk.{Walk, Holds, Walked, item_in, RunsStatement, RunsItem, RunsItems}
+use Rattle.unroller.specs.Walk.{Walk, with_counts, Holds, Walked, item_in, RunsStatement, RunsItem, RunsItems}
 use Rattle.unroller.specs.WalkItems.{Ends, within16, round, RangeIs, Ranges, RunsNested, RunsRound, RunsRounds}
 use Rattle.unroller.specs.declared.walk.Scope.{Scope}
 use Rattle.unroller.specs.declared.walk.Progress.{Progress}
@@ -35,6 +35,13 @@ use Rattle.unroller.specs.declared.items.Range.{Range}
 use Rattle.unroller.proofs.WalkForward.{item_forward, passes_on, passes_not}
 use Rattle.unroller.proofs.Indices.{indices_none}
 use Rattle.unroller.proofs.Values.{values_none, values_some}
+
+-- ---- a walk's answer beside the counts that it leaves
+pub stopped_walk : {r : Result ℕ Refusal} (p : Progress) {e : Refusal} → r ≡ Err e → with_counts r p ≡ Err e
+stopped_walk p w = ap (λ (r : Result ℕ Refusal). with_counts r p) w
+
+pub walked-on : {r : Result ℕ Refusal} (p : Progress) {next : ℕ} → r ≡ Ok next → with_counts r p ≡ Ok (next, p)
+walked-on p w = ap (λ (r : Result ℕ Refusal). with_counts r p) w
 
 -- ---- a run and what follows it
 module _ (t : Tables) where
@@ -216,18 +223,25 @@ module _ (scope : Scope) (left less at : ℕ) (p : Progress) (l f : List ℕ) (f
           (u js next (length (bytes scope)) d (ap (body (tables scope) (length (bytes scope)) less scope.loops (bytes scope)) q.1 ∙ e2) (omega arith) l8 based h))
 
       module _ (n₀ : Result ℕ Refusal) (ends : place_says n₀ ≡ ended (items_step (tables scope) less scope.loops (bytes scope) to)) where
-        pub guard_lost : (g : Refusal) (l' f' : List ℕ) → n₀ ≡ Err g → RunsNested scope at 3 left p l f (Err g) l' f'
+        guard_lost : (g : Refusal) (l' f' : List ℕ) → n₀ ≡ Err g → RunsNested scope at 3 left p l f (Err g) l' f'
         unfolding RunsNested Values
         guard_lost g l' f' case₁ i next d e b8 l8 based h = guard_by (bytes scope) (tables scope) left less scope.loops at fewer e λ g mid js e1 e2 x.
             let q = values_some v₀ (w₀ g mid e1 (omega arith) l8) case in
             passes_not (bytes scope) to (tables scope) less scope.loops n₀ ends (ap (body (tables scope) (length (bytes scope)) less scope.loops (bytes scope)) q.1 ∙ e2) (omega arith) case₁
 
-        pub guard_passes : (n : ℕ) → lt_z v (pos 0) ≡ true → n₀ ≡ Ok n → RunsNested scope at 3 left p l f (Ok (n, p)) l f
+        guard_passes : (n : ℕ) → lt_z v (pos 0) ≡ true → n₀ ≡ Ok n → RunsNested scope at 3 left p l f (Ok (n, p)) l f
         unfolding RunsNested Values run guarded
         guard_passes n z case₁ i next d e b8 l8 based h = guard_by (bytes scope) (tables scope) left less scope.loops at fewer e λ g mid js e1 e2 x.
             let q = values_some v₀ (w₀ g mid e1 (omega arith) l8) case in
             let y = passes_on (bytes scope) to (tables scope) less scope.loops n₀ ends (ap (body (tables scope) (length (bytes scope)) less scope.loops (bytes scope)) q.1 ∙ e2) (omega arith) case₁ in
             rw x (subst (λ (m : Ran Done). Walked (tables scope) next m (Ok (n, p)) l f) (sym (ap (guarded js (tables scope) (around scope) d) (sym q.0) ∙ guarded_passes js (tables scope) (around scope) d v z)) (y, h))
+
+        pub guard_ended : lt_z v (pos 0) ≡ true → RunsNested scope at 3 left p l f (with_counts n₀ p) l f
+        guard_ended z = go n₀ refl
+          where
+            go : (n : Result ℕ Refusal) → n₀ ≡ n → RunsNested scope at 3 left p l f (with_counts n p) l f
+            go (Ok n) k = guard_passes n z k
+            go (Err g) k = guard_lost g l f k
 
 -- ---- loops
 rounded : ℕ → ℤ → Items → Tables → List ℤ → Done → Ends → Ran Done
@@ -281,13 +295,20 @@ module _ (scope : Scope) (at from left : ℕ) where
     rounds-found n g k js next d e b8 l8 found based h = rw (indices_none most step last index g) (found n k, h)
 
     module _ (n₀ : Result ℕ Refusal) (ends : place_says n₀ ≡ ended (items_step (tables scope) left (scope.loops + 1) (bytes scope) from)) where
-      pub rounds_lost : (g : Refusal) (l' f' : List ℕ) → n₀ ≡ Err g → RunsRounds scope at from left step last most index past p l f (Err g) l' f'
+      rounds_lost : (g : Refusal) (l' f' : List ℕ) → n₀ ≡ Err g → RunsRounds scope at from left step last most index past p l f (Err g) l' f'
       unfolding RunsRounds
       rounds_lost g l' f' case js next d e b8 l8 found based h = passes_not (bytes scope) from (tables scope) left (scope.loops + 1) n₀ ends e (omega arith) case
 
-      pub rounds_none : (n : ℕ) → goes_on step last index ≡ false → n₀ ≡ Ok n → RunsRounds scope at from left step last most index past p l f (Ok (n, p)) l f
+      rounds_none : (n : ℕ) → goes_on step last index ≡ false → n₀ ≡ Ok n → RunsRounds scope at from left step last most index past p l f (Ok (n, p)) l f
       unfolding RunsRounds rounds
       rounds_none n g case js next d e b8 l8 found based h = rw (indices_none most step last index g) (passes_on (bytes scope) from (tables scope) left (scope.loops + 1) n₀ ends e (omega arith) case, h)
+
+      pub rounds_ended : goes_on step last index ≡ false → RunsRounds scope at from left step last most index past p l f (with_counts n₀ p) l f
+      rounds_ended g = go n₀ refl
+        where
+          go : (n : Result ℕ Refusal) → n₀ ≡ n → RunsRounds scope at from left step last most index past p l f (with_counts n p) l f
+          go (Ok n) k = rounds_none n g k
+          go (Err e) k = rounds_lost e l f k
 
     module _ (i : ℤ) (rest : List ℤ) (more : indices most step last index ≡ i ∷ rest) where
       pub rounds-stop : (r₀ : Walk) (g : Refusal) (l' f' l'' f'' : List ℕ) → r₀ ≡ Err g → RunsRound scope at from left i p l f r₀ l' f'

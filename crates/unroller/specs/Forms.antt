@@ -1,5 +1,5 @@
 -- Forms worked out over arrays of eight numbers, as the code does.
-use Rattle.std.specs.Prelude.{ℕ, zero, suc, ◌-◌, ◌%◌, ◌^◌, ◌≤◌, ◌<◌, ◌≡◌, List, length, get_or, take, ℤ, pos, negsuc, Result, ◌+ℤ◌, ◌*ℤ◌}
+use Rattle.std.specs.Prelude.{ℕ, zero, suc, ◌-◌, ◌%◌, ◌^◌, ◌≤◌, ◌<◌, ◌≡◌, List, length, get_or, take, ℤ, pos, negsuc, nat_abs, Result, Ok, Err, ◌+ℤ◌, ◌*ℤ◌}
 use Rattle.std.specs.Int.{Width, w32}
 use mir.Val.{bits, to_z}
 use Rattle.reader.specs.Field.{got}
@@ -33,3 +33,8 @@ Packs cs w = (k : ℕ) → k < 8 → get_or (bytes_of 8 w) k (pos 0) ≡ get_or 
 unfoldable pub Values : List ℕ → ℕ → ℕ → List ℤ → Result (ℤ × ℕ) Refusal → Type 0
 Values s at loops is r =
     (f : Form) (next : ℕ) → form loops s at ≡ got f next → loops ≤ 8 → length is ≡ 8 → read_says r ≡ got (value_at f (take loops is)) next
+
+-- no value is larger, whatever the bytes are
+abbrev pub Small : Result (ℤ × ℕ) Refusal → Type 0
+Small (Ok r) = nat_abs r.0 ≤ 33587200
+Small (Err e) = Unit {0}

@@ -20,6 +20,11 @@ use Rattle.unroller.specs.declared.walk.Progress.{Progress}
 abbrev pub Walk : Type 0
 Walk = Result (ℕ × Progress) Refusal
 
+-- the place that a walk answers, with the counts that it leaves
+abbrev pub with_counts : Result ℕ Refusal → Progress → Walk
+with_counts (Ok next) p = Ok (next, p)
+with_counts (Err e) p = Err e
+
 -- what the run has done so far, as the code keeps it: counts, the list laid out in its slice, and a flag for each cell written
 pub record Holds (t : Tables) (d : Done) (p : Progress) (list flags : List ℕ) : Type 0 where
   pub tables-allowed : allowed_tables t ≡ true

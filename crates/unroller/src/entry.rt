@@ -44,8 +44,9 @@ fn run(program: &[u8], list: &mut [u32]) -> Result<usize, UnrollError>
         indices: [0; 8],
     };
     let mut flags = [0; MOST_CELLS];
-    match items(&scope, first, 8, Progress::default(), &mut flags, list) {
-        Ok((_, done)) => Ok(done.updates),
+    let mut progress = Progress::default();
+    match items(&scope, first, 8, &mut progress, &mut flags, list) {
+        Ok(_) => Ok(progress.updates),
         Err(refusal) => {
             clear(list);
             Err(UnrollError::Refused(refusal))

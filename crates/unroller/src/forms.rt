@@ -1,7 +1,7 @@
 // Affine forms in signed arithmetic: 32 bits hold every product and every sum.
 ghost use Rattle.std.specs.Prelude.{◌≡◌, ◌+◌, ◌≤◌, ◌+ℤ◌, ◌*ℤ◌, nat_abs};
 ghost use Rattle.unroller.specs.Run.{goes_on};
-ghost use Rattle.unroller.specs.Forms.{form_sum, Packs, Values};
+ghost use Rattle.unroller.specs.Forms.{form_sum, Packs, Values, Small};
 
 use crate::walk::Scope;
 use reader::fields::Read;
@@ -42,7 +42,8 @@ fn packed(c: [i8; 8]) -> usize
 // The value of a form. Most name one or two loops, so the work ends behind the last coefficient that is not 0: a loop over the loops
 // and eight products in a row were slower.
 fn form_value(constant: i16, coefficients: [i8; 8], indices: &[i16; 8]) -> i32
-    ensures { result ≡ form_sum constant coefficients indices.now 8 }
+    ensures value { result ≡ form_sum constant coefficients indices.now 8 }
+    ensures bound { nat_abs result ≤ 33_587_200 }
 {
     let mut sum = i32::from(constant);
     let mut rest = packed(coefficients);
@@ -58,7 +59,8 @@ fn form_value(constant: i16, coefficients: [i8; 8], indices: &[i16; 8]) -> i32
 impl<'a> Scope<'a> {
     // The value of the form at `at`, and the place past it.
     pub(crate) fn value_at(&self, at: usize) -> Read<i32>
-        ensures { Values self.now.program.now at self.now.loops self.now.indices result }
+        ensures value { Values self.now.program.now at self.now.loops self.now.indices result }
+        ensures bound { Small result }
     {
         let (form, next) = form_at(self.program, at, self.loops)?;
         let value = form_value(form.constant, form.coefficients, &self.indices);

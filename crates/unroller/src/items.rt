@@ -1,7 +1,7 @@
 // Walks the items of a file that was read without a "no": loops and guards here, statements by `statement`. The grammar rules out
 // what the walk would refuse by its questions; they are asked all the same, so that no function leans on the bytes.
 ghost use Rattle.std.specs.Prelude.{◌≡◌, ◌+◌, ◌≤◌, ◌<◌, length, pos};
-ghost use Rattle.unroller.specs.Walk.{RunsItem, RunsItems};
+ghost use Rattle.unroller.specs.Walk.{with_counts, RunsItem, RunsItems};
 ghost use Rattle.unroller.specs.WalkItems.{Short, Ranges, Moves, RunsNested, RunsRound, RunsRounds};
 
 use crate::forms::goes_on;
@@ -52,27 +52,25 @@ pub(crate) fn items(
     scope: &Scope,
     start: usize,
     left: usize,
-    before: Progress,
+    progress: &mut Progress,
     flags: &mut Flags,
     list: &mut [u32],
 ) -> Walk
     requires { scope.now.loops + left ≤ 8 }
-    ensures { RunsItems scope.now start left before list.old flags.old result list.new flags.new }
+    ensures { RunsItems scope.now start left progress.old list.old flags.old (with_counts result progress.new) list.new flags.new }
 {
     let mut place = start;
-    let mut done = before;
     while place < scope.program.len() {
         let code = scope.program[place];
         if code == 0 {
-            return Ok((place + 1, done));
+            return Ok(place + 1);
         }
-        let (next, then) = item(scope, place, code, left, done, flags, list)?;
+        let next = item(scope, place, code, left, progress, flags, list)?;
         // An item takes a byte at least.
         if next <= place {
             return Err(Question::Cut.at(place));
         }
         place = next;
-        done = then;
     }
     Err(Question::Cut.at(place))
 }
@@ -84,17 +82,17 @@ fn item(
     at: usize,
     code: u8,
     left: usize,
-    before: Progress,
+    progress: &mut Progress,
     flags: &mut Flags,
     list: &mut [u32],
 ) -> Walk
     requires { (scope.now.loops + left ≤ 8) × (at < length scope.now.program.now) }
-    ensures { RunsItem scope.now at code left before list.old flags.old result list.new flags.new }
+    ensures { RunsItem scope.now at code left progress.old list.old flags.old (with_counts result progress.new) list.new flags.new }
 {
     match code {
-        1 => statement(scope, at, before, flags, list),
-        2 => run_loop(scope, at, left, before, flags, list),
-        3 => run_guard(scope, at, left, before, flags, list),
+        1 => statement(scope, at, progress, flags, list),
+        2 => run_loop(scope, at, left, progress, flags, list),
+        3 => run_guard(scope, at, left, progress, flags, list),
         _ => Err(Question::Code.at(at)),
     }
 }
@@ -105,22 +103,21 @@ fn run_guard(
     scope: &Scope,
     at: usize,
     left: usize,
-    before: Progress,
+    progress: &mut Progress,
     flags: &mut Flags,
     list: &mut [u32],
 ) -> Walk
     requires { (scope.now.loops + left ≤ 8) × (at < length scope.now.program.now) }
-    ensures { RunsNested scope.now at 3 left before list.old flags.old result list.new flags.new }
+    ensures { RunsNested scope.now at 3 left progress.old list.old flags.old (with_counts result progress.new) list.new flags.new }
 {
     if left == 0 {
         return Err(Question::Depth.at(at));
     }
     let (value, body) = scope.value_at(at + 1)?;
     if value < 0 {
-        let next = items_end(scope.program, body, scope.tables, left - 1, scope.loops)?;
-        return Ok((next, before));
+        return items_end(scope.program, body, scope.tables, left - 1, scope.loops);
     }
-    items(scope, body, left - 1, before, flags, list)
+    items(scope, body, left - 1, progress, flags, list)
 }
 
 // The loop whose code stands at `at`.
@@ -129,18 +126,18 @@ fn run_loop(
     scope: &Scope,
     at: usize,
     left: usize,
-    before: Progress,
+    progress: &mut Progress,
     flags: &mut Flags,
     list: &mut [u32],
 ) -> Walk
     requires { (scope.now.loops + left ≤ 8) × (at < length scope.now.program.now) }
-    ensures { RunsNested scope.now at 2 left before list.old flags.old result list.new flags.new }
+    ensures { RunsNested scope.now at 2 left progress.old list.old flags.old (with_counts result progress.new) list.new flags.new }
 {
     if left == 0 {
         return Err(Question::Depth.at(at));
     }
     let range = scope.range_at(at)?;
-    rounds(scope, at, range, left - 1, before, flags, list)
+    rounds(scope, at, range, left - 1, progress, flags, list)
 }
 
 // The rounds of the loop at `at`. The index is wider than 16 bits, so that a step past either end ends the loop. Where there was no
@@ -151,34 +148,40 @@ fn rounds(
     at: usize,
     range: Range,
     left: usize,
-    before: Progress,
+    progress: &mut Progress,
     flags: &mut Flags,
     list: &mut [u32],
 ) -> Walk
     requires { (scope.now.loops + left < 8) × (range.step ≡ pos 0 → ⊥) }
-    ensures { RunsRounds scope.now at range.body left range.step range.last 65536 range.first None before list.old flags.old result list.new flags.new }
+    ensures { RunsRounds scope.now at range.body left range.step range.last 65536 range.first None progress.old list.old flags.old (with_counts result progress.new) list.new flags.new }
 {
     let end = i32::from(range.last);
     let mut index = i32::from(range.first);
     let mut past = None;
-    let mut done = before;
     while goes_on(index, end, range.step) {
-        let (next, then) = round(scope, at, range.body, left, index as i16, done, flags, list)?;
+        let next = round(
+            scope,
+            at,
+            range.body,
+            left,
+            index as i16,
+            progress,
+            flags,
+            list,
+        )?;
         past = Some(next);
-        done = then;
         index += i32::from(range.step);
     }
-    let next = match past {
-        Some(next) => next,
+    match past {
+        Some(next) => Ok(next),
         None => items_end(
             scope.program,
             range.body,
             scope.tables,
             left,
             scope.loops + 1,
-        )?,
-    };
-    Ok((next, done))
+        ),
+    }
 }
 
 // One round, at this index. Before it: are there at most 65,536 with it? 18
@@ -189,23 +192,20 @@ fn round(
     body: usize,
     left: usize,
     index: i16,
-    before: Progress,
+    progress: &mut Progress,
     flags: &mut Flags,
     list: &mut [u32],
 ) -> Walk
     requires { scope.now.loops + left < 8 }
-    ensures { RunsRound scope.now at body left index before list.old flags.old result list.new flags.new }
+    ensures { RunsRound scope.now at body left index progress.old list.old flags.old (with_counts result progress.new) list.new flags.new }
 {
-    if 65536 <= before.rounds {
+    if 65536 <= progress.rounds {
         return Err(Question::Rounds.at(at));
     }
-    let begun = Progress {
-        rounds: before.rounds + 1,
-        ..before
-    };
+    progress.rounds += 1;
     // A round of no items is told from here, without a call.
     if body < scope.program.len() && scope.program[body] == 0 {
-        return Ok((body + 1, begun));
+        return Ok(body + 1);
     }
-    items(&scope.inner(index), body, left, begun, flags, list)
+    items(&scope.inner(index), body, left, progress, flags, list)
 }

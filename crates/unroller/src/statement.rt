@@ -3,7 +3,7 @@ ghost use Rattle.std.specs.Prelude.{◌≡◌, [], ◌∷◌, ◌+◌, ◌*◌, 
 ghost use Rattle.std.proofs.lemmas.List.Edits.{sets};
 ghost use Rattle.reader.specs.Entries.{viewed, tables_in};
 ghost use Rattle.unroller.specs.Scopes.{bytes, tables};
-ghost use Rattle.unroller.specs.Walk.{RunsStatement};
+ghost use Rattle.unroller.specs.Walk.{with_counts, RunsStatement};
 ghost use Rattle.unroller.specs.Writes.{WritesRead, WritesLiteral, WritesConstant, WritesLeaf, WritesOperator, WritesRecord, Roomy, WritesNode, Ends, spot, may_read, record_fine, scanned, Marks, WritesUpdate, Within, Sources, FewNodes, RunsUpdate};
 ghost use Rattle.model.specs.Memory.{list_words};
 
@@ -252,14 +252,14 @@ fn update(
     at: usize,
     array: usize,
     subscripts: usize,
-    before: Progress,
+    progress: &mut Progress,
     flags: &mut Flags,
     list: &mut [u32],
 ) -> Walk
-    requires { (before.updates < 2048) × (before.nodes ≤ 8192) × (list_words ≤ length list.old) }
-    ensures { RunsUpdate scope.now at array subscripts before list.old flags.old result list.new flags.new }
+    requires { (progress.old.updates < 2048) × (progress.old.nodes ≤ 8192) × (list_words ≤ length list.old) }
+    ensures { RunsUpdate scope.now at array subscripts progress.old list.old flags.old (with_counts result progress.new) list.new flags.new }
 {
-    let to = HEADER_WORDS + 3 * (before.updates + before.nodes);
+    let to = HEADER_WORDS + 3 * (progress.updates + progress.nodes);
     let target = match write_update(scope, array, subscripts, list, to) {
         Ok(target) => target,
         // The run's refusals are the statement's, wherever in it they arise.
@@ -270,25 +270,22 @@ fn update(
         return Err(Question::Unwritten.at(at));
     }
     mark(flags, spot_of(scope.tables, array, target.cell));
-    let after = Progress {
-        nodes: before.nodes + more,
-        updates: before.updates + 1,
-        ..before
-    };
-    Ok((target.next, after))
+    progress.nodes += more;
+    progress.updates += 1;
+    Ok(target.next)
 }
 
 // The statement whose code stands at `at`. Its questions in order: 19, 20, then 16 of all subscripts, last 17.
 pub(crate) fn statement(
     scope: &Scope,
     at: usize,
-    before: Progress,
+    progress: &mut Progress,
     flags: &mut Flags,
     list: &mut [u32],
 ) -> Walk
-    ensures { RunsStatement scope.now at before list.old flags.old result list.new flags.new }
+    ensures { RunsStatement scope.now at progress.old list.old flags.old (with_counts result progress.new) list.new flags.new }
 {
-    if 2047 < before.updates {
+    if 2047 < progress.updates {
         return Err(Question::Updates.at(at));
     }
     // A statement that was read has its code in the program, a list that was lent is long enough, and there were 8,192 nodes at most.
@@ -298,12 +295,12 @@ pub(crate) fn statement(
     if list.len() < LIST_WORDS {
         return Err(Question::Memory.at(at));
     }
-    if MOST_NODES < before.nodes {
+    if MOST_NODES < progress.nodes {
         return Err(Question::Nodes.at(at));
     }
     let (array, subscripts) = index_at(scope.program, at + 1, array_count(scope.tables))?;
-    if !few_nodes(scope, subscripts, array, before.nodes) {
+    if !few_nodes(scope, subscripts, array, progress.nodes) {
         return Err(Question::Nodes.at(at));
     }
-    update(scope, at, array, subscripts, before, flags, list)
+    update(scope, at, array, subscripts, progress, flags, list)
 }

@@ -11,7 +11,7 @@ use reader::tables::{FlatTables, array_count, dimensions_of, extent_of};
 // For each cell whether an update has written it.
 pub(crate) type Flags = [u8; MOST_CELLS];
 
-// The rounds, nodes and updates of the run so far.
+// The rounds, nodes and updates of the run so far. Lent to the walk: in its answer they would be copied at each item and each round.
 #[derive(Clone, Copy, Debug, Default, PartialEq, Eq)]
 pub(crate) struct Progress {
     pub(crate) rounds: usize,
@@ -19,8 +19,8 @@ pub(crate) struct Progress {
     pub(crate) updates: usize,
 }
 
-// The place past what was run, and what the run has done by then.
-pub(crate) type Walk = Result<(usize, Progress), Refusal>;
+// The place past what was run.
+pub(crate) type Walk = Result<usize, Refusal>;
 
 // What an item stands in: the program and its tables, the number of loops around it and their index values, outermost first.
 #[derive(Clone, Copy)]
@@ -56,7 +56,9 @@ impl<'a> Scope<'a> {
         in_extent(v, extent, next)
     }
 
-    // The cell of a declared array at the subscripts that stand at `at`, last fastest.
+    // The cell of a declared array at the subscripts that stand at `at`, last fastest. The hint keeps it from being a call of its own
+    // in the walk, where LLVM's own limit is near.
+    #[inline]
     pub(crate) fn cell_at(&self, at: usize, array: usize) -> Read<usize>
         ensures { CellOf (bytes self.now) at (tables self.now) self.now.loops self.now.indices array result }
     {

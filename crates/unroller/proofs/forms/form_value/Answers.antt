@@ -68,5 +68,9 @@ pub returns : goal.returns
 returns c =
     let i = c.loop-rest.invariant in
     let a = c.args in
-    i.3 ∙ ap (λ (z : ℤ). form_sum z (bytes_of 8 c.packed-rest.result) a.indices.now c.loop-rest.k) (to_z-of_z c.ranges.constant)
-    ∙ rest_none _ _ _ i.1 i.0 i.2 a.constant a.coefficients a.indices.now c.packed-rest.ensures (omega arith)
+    record {
+      value =
+          i.3 ∙ ap (λ (z : ℤ). form_sum z (bytes_of 8 c.packed-rest.result) a.indices.now c.loop-rest.k) (to_z-of_z c.ranges.constant)
+          ∙ rest_none _ _ _ i.1 i.0 i.2 a.constant a.coefficients a.indices.now c.packed-rest.ensures (omega arith);
+      bound = omega (arith, i.4, i.0);
+    }

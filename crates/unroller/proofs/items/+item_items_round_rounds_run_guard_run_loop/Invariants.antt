@@ -27,8 +27,8 @@ decreases-run_loop l = 5 * l.left + 0
 
 abbrev pub invariant-items-loop-place : goal.invariant-items-loop-place
 invariant-items-loop-place loop =
-    (r : Walk) (l f : List ℕ) → RunsItems loop.scope loop.place loop.left loop.done loop.list loop.flags r l f
-    → RunsItems loop.scope loop.initial.place loop.left loop.initial.done loop.initial.list loop.initial.flags r l f
+    (r : Walk) (l f : List ℕ) → RunsItems loop.scope loop.place loop.left loop.progress loop.list loop.flags r l f
+    → RunsItems loop.scope loop.initial.place loop.left loop.initial.progress loop.initial.list loop.initial.flags r l f
 
 abbrev pub decreases-items-loop-place : goal.decreases-items-loop-place
 decreases-items-loop-place l = length l.scope.program.now - l.place
@@ -38,8 +38,8 @@ invariant-rounds-loop-past loop =
     (k : ℕ)
     × Place loop.range.first loop.range.last loop.range.step loop.index k
     × ((r : Walk) (l f : List ℕ)
-    → RunsRounds loop.scope loop.at loop.range.body loop.left loop.range.step loop.range.last k loop.index loop.past loop.done loop.list loop.flags r l f
-    → RunsRounds loop.scope loop.at loop.range.body loop.left loop.range.step loop.range.last 65536 loop.range.first None loop.initial.done loop.initial.list loop.initial.flags r l f)
+    → RunsRounds loop.scope loop.at loop.range.body loop.left loop.range.step loop.range.last k loop.index loop.past loop.progress loop.list loop.flags r l f
+    → RunsRounds loop.scope loop.at loop.range.body loop.left loop.range.step loop.range.last 65536 loop.range.first None loop.initial.progress loop.initial.list loop.initial.flags r l f)
 
 abbrev pub decreases-rounds-loop-past : goal.decreases-rounds-loop-past
 decreases-rounds-loop-past l = dist l.range.step l.range.last l.index

@@ -83,17 +83,17 @@ pub run_guard-returns-then-left-eq0 : goal.run_guard-returns-then-left-eq0
 run_guard-returns-then-left-eq0 t c = nested_none _ _ _ _ _ _ _ _ c.if-left-eq0.true
 
 pub run_guard-returns-in_err-value : goal.run_guard-returns-in_err-value
-run_guard-returns-in_err-value t c = guard_lost _ _ (c.args.left - 1) _ _ _ (let n = c.if-left-eq0.false in omega arith) _ c.value_at.ensures _ _ (sym c.ok.ensures.value ∙ c.in_err-value.was)
+run_guard-returns-in_err-value t c = guard_lost _ _ (c.args.left - 1) _ _ _ (let n = c.if-left-eq0.false in omega arith) _ c.value_at.ensures.value _ _ (sym c.ok.ensures.value ∙ c.in_err-value.was)
 
 pub run_guard-returns-then-value-lt0 : goal.run_guard-returns-then-value-lt0
 run_guard-returns-then-value-lt0 t c =
     let z = rw (to_z-of_z {w = w32} {z = c.in_ok-value.value} (search rules)) at c.if-value-lt0.true in
-    guard_passes _ _ (c.args.left - 1) _ _ _ (let n = c.if-left-eq0.false in omega arith) _ c.value_at.ensures _ _ _ _ (sym c.ok.ensures.value ∙ c.in_ok-value.was) z _ c.items_end.ensures c.ok-then-value-lt0.ensures.value refl
+    guard_passes _ _ (c.args.left - 1) _ _ _ (let n = c.if-left-eq0.false in omega arith) _ c.value_at.ensures.value _ _ _ _ (sym c.ok.ensures.value ∙ c.in_ok-value.was) z _ c.items_end.ensures c.ok-then-value-lt0.ensures.value refl
 
 pub run_guard-returns : goal.run_guard-returns
 run_guard-returns t c =
     let z = rw (to_z-of_z {w = w32} {z = c.in_ok-value.value} (search rules)) at c.if-value-lt0.false in
-    guard-runs _ _ (c.args.left - 1) _ _ _ (let n = c.if-left-eq0.false in omega arith) _ c.value_at.ensures _ _ _ _ (sym c.ok.ensures.value ∙ c.in_ok-value.was) z c.items.ensures
+    guard-runs _ _ (c.args.left - 1) _ _ _ (let n = c.if-left-eq0.false in omega arith) _ c.value_at.ensures.value _ _ _ _ (sym c.ok.ensures.value ∙ c.in_ok-value.was) z c.items.ensures
 
 pub run_loop-returns-then-left-eq0 : goal.run_loop-returns-then-left-eq0
 run_loop-returns-then-left-eq0 t c = nested_none _ _ _ _ _ _ _ _ c.if-left-eq0.true

@@ -7,8 +7,8 @@ use Rattle.unroller.proofs.Values.{handed}
 use Rattle.unroller.proofs.Updating.{asked_19, no_code, no_list, many-nodes, no_array, asked_20, updates_it}
 use Rattle.unroller.proofs.statement.statement.Goals as goal
 
-pub returns-then-before-gt2047 : goal.returns-then-before-gt2047
-returns-then-before-gt2047 c = asked_19 _ _ _ _ _ _ _ _ _ c.at.ensures refl c.if-before-gt2047.true
+pub returns-then-progress-gt2047 : goal.returns-then-progress-gt2047
+returns-then-progress-gt2047 c = asked_19 _ _ _ _ _ _ _ _ _ c.at.ensures refl c.if-progress-gt2047.true
 
 pub returns-then-scope-at : goal.returns-then-scope-at
 returns-then-scope-at c = no_code _ _ _ _ _ _ _ _ c.if-scope-at.true
@@ -16,8 +16,8 @@ returns-then-scope-at c = no_code _ _ _ _ _ _ _ _ c.if-scope-at.true
 pub returns-then-list-lt-LIST_WORDS : goal.returns-then-list-lt-LIST_WORDS
 returns-then-list-lt-LIST_WORDS c = no_list _ _ _ _ _ _ _ _ c.if-list-lt-LIST_WORDS.true
 
-pub returns-then-before-gt-MOST_NODES : goal.returns-then-before-gt-MOST_NODES
-returns-then-before-gt-MOST_NODES c = many-nodes _ _ _ _ _ _ _ _ c.if-before-gt-MOST_NODES.true
+pub returns-then-progress-gt-MOST_NODES : goal.returns-then-progress-gt-MOST_NODES
+returns-then-progress-gt-MOST_NODES c = many-nodes _ _ _ _ _ _ _ _ c.if-progress-gt-MOST_NODES.true
 
 pub returns-in_err-array : goal.returns-in_err-array
 returns-in_err-array c =
