@@ -1,4 +1,4 @@
--- What the lengths of one of many pairs say.
+-- What the lengths of one of many pairs say; a total that stays.
 use Prim.Native.Nat.{ℕ, ◌+◌, ◌*◌, ◌≤◌, ◌<◌}
 use native.Mathlib.Omega.{arith}
 use mathlib.Core.Path.{◌≡◌, refl}
@@ -7,6 +7,7 @@ use lib.ListN.{length, get_or}
 use borrow.Author.Tests.{lt-leb, le-leb}
 use Rattle.model.specs.Reply as model
 use Rattle.comparer.specs.Batch.{Lengths, ended, last, sizes, sized, lengths_of}
+use Rattle.comparer.specs.BatchSteps.{capped}
 
 -- the two lengths
 module _ (l r : ℕ) where
@@ -37,3 +38,7 @@ four_bytes (b ∷ s) l r x h e f g =
     let p : get_or (b ∷ s) 0 0 + 256 * (get_or (b ∷ s) 1 0 + 256 * 0) ≡ l = omega arith in
     let q : get_or (b ∷ s) 2 0 + 256 * (get_or (b ∷ s) 3 0 + 256 * 0) ≡ r = omega arith in
     rw (le-leb 4 (length (b ∷ s)) h, p, q) g
+
+-- the totals
+pub same_total : (n : ℕ) → n < 18446744073709551616 → n ≡ capped (n + 0)
+same_total n h = omega arith

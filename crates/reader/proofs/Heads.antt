@@ -1,7 +1,7 @@
 -- Steps of the proofs about the head of a file: things in a row that a loop stores.
-use mathlib.Core.Path.{◌≡◌, refl, ap, ◌∙◌}
+use mathlib.Core.Path.{◌≡◌, refl, sym, ap, ◌∙◌}
 use Prim.Native.Nat.{ℕ, zero, suc, ◌+◌, ◌*◌, ◌^◌, ◌≤◌, ◌<◌}
-use mathlib.Core.List.{List, [], ◌∷◌}
+use mathlib.Core.List.{List, [], ◌∷◌, ◌++◌, append-nil, append_assoc}
 use native.Mathlib.Omega.{arith}
 use native.Mathlib.Nat.{zero-add, mul-le-mul, pow-le-pow_right}
 use native.Mathlib.Numerals.{unary_clauses}
@@ -86,6 +86,44 @@ size_below k size h w = omega (arith, pow-le-pow_right {n = 1024} (omega arith) 
 then_then : {A B C : Type 0} (m : Outcome A) (f : A → ℕ → Outcome B) (g : B → ℕ → Outcome C) → and_then (and_then m f) g ≡ and_then m (λ a n. and_then (f a n) g)
 then_then (got a n) f g = refl
 then_then (no k p) f g = refl
+
+then_same : {A B : Type 0} (m : Outcome A) (f g : A → B) → ((a : A) → f a ≡ g a) → and_then m (λ a n. got (f a) n) ≡ and_then m (λ a n. got (g a) n)
+then_same (got a n) f g h = ap (λ (b : _). got b n) (h a)
+then_same (no k p) f g h = refl
+
+-- a checked byte, and what follows it
+module _ {B : Type 0} (n : ℕ) (test : ℕ → Bool) (s : List ℕ) (at : ℕ) (f : ℕ → ℕ → Outcome B) where
+  pub checked_then : and_then (checked n test s at) f ≡ and_then (byte s at) (λ x y. and_then (ask n at (test x) s y) (λ _ z. f x z))
+  unfolding checked
+  checked_then = simp then_then
+
+  pub checked-got : {x y : ℕ} → checked n test s at ≡ got x y → f x y ≡ and_then (byte s at) (λ x y. and_then (ask n at (test x) s y) (λ _ z. f x z))
+  checked-got e = sym (ap (λ (m : Outcome ℕ). and_then m f) e) ∙ checked_then
+
+  pub checked_no : {k p : ℕ} → checked n test s at ≡ no k p → no k p ≡ and_then (byte s at) (λ x y. and_then (ask n at (test x) s y) (λ _ z. f x z))
+  checked_no e = sym (ap (λ (m : Outcome ℕ). and_then m f) e) ∙ checked_then
+
+-- what a loop stores: l is stored, and the rest, of m, is behind it
+abbrev pub Behind : {A : Type 0} → Outcome (List A) → List A → Outcome (List A) → Type 0
+Behind all l rest = all ≡ and_then rest (λ r next. got (l ++ r) next)
+
+pub behind_none : {A : Type 0} (m : Outcome (List A)) → Behind m [] m
+behind_none (got l n) = refl
+behind_none (no k p) = refl
+
+module _ {A : Type 0} {all : Outcome (List A)} (l : List A) (rest : Outcome (List A)) (i : Behind all l rest) where
+  pub behind-stop : {k p : ℕ} → rest ≡ no k p → all ≡ no k p
+  behind-stop e = rw e at i
+
+  pub behind_all : {next : ℕ} → rest ≡ got [] next → all ≡ got l next
+  behind_all e = rw (e, append-nil) at i
+
+  pub behind_more : (x : A) (m : Outcome (List A)) → rest ≡ and_then m (λ r next. got (x ∷ r) next) → Behind all (l ++ (x ∷ [])) m
+  behind_more x m e =
+      i
+      ∙ ap (λ (o : Outcome (List A)). and_then o (λ r next. got (l ++ r) next)) e
+      ∙ then_then m (λ r next. got (x ∷ r) next) (λ r next. got (l ++ r) next)
+      ∙ then_same m _ _ (λ r. sym (append_assoc l (x ∷ []) r))
 
 -- an array by its checked parts
 pub array_parts : (after : Bool) (before : ℕ) (s : List ℕ) (at : ℕ) → array after before s at

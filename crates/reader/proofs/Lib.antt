@@ -1,5 +1,6 @@
 pub mod Binds
 pub mod Numbers
+pub mod Computed
 pub mod Depth
 pub mod Lists
 pub mod Bytes

@@ -2,6 +2,7 @@ pub mod Alike
 pub mod Count
 pub mod Walks
 pub mod Words
+pub mod Cases
 pub mod Chains
 pub mod Nodes
 pub mod Trees

@@ -24,6 +24,17 @@ sets_at (v ∷ vs) l i (suc k) p h =
     ap (λ (x : ℕ). get_or (sets (set l i v) (suc i) vs) x 0) e
     ∙ sets_at vs (set l i v) (suc i) k (omega arith) (simp length-set (omega arith))
 
+-- six stores, as code makes them
+pub six_sets : (l : List ℕ) (b v0 v1 v2 v3 v4 v5 : ℕ)
+    → set (set (set (set (set (set l b v0) (b + 1) v1) (b + 2) v2) (b + 3) v3) (b + 4) v4) (b + 5) v5 ≡ sets l b (v0 ∷ v1 ∷ v2 ∷ v3 ∷ v4 ∷ v5 ∷ [])
+six_sets l b v0 v1 v2 v3 v4 v5 =
+    let e1 : b + 1 ≡ suc b = omega arith in
+    let e2 : b + 2 ≡ suc (suc b) = omega arith in
+    let e3 : b + 3 ≡ suc (suc (suc b)) = omega arith in
+    let e4 : b + 4 ≡ suc (suc (suc (suc b))) = omega arith in
+    let e5 : b + 5 ≡ suc (suc (suc (suc (suc b)))) = omega arith in
+    λ k. set (set (set (set (set (set l b v0) (e1 k) v1) (e2 k) v2) (e3 k) v3) (e4 k) v4) (e5 k) v5
+
 -- ---- a node that is written
 
 module _ (m : List ℕ) (i : ℕ) (n : Node) where

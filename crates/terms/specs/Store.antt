@@ -29,6 +29,15 @@ start_says (Err e) = refused 25
 abbrev pub kept : ℕ → ℕ → Kept
 kept count id = record { count = count; id = id }
 
+-- an answer in two numbers: of a refusal the count is above 4,096, and the question stands for the id
+abbrev pub kept_of : Says Kept → Kept
+kept_of (gives k) = k
+kept_of (refused question) = kept 4097 question
+
+-- and read back
+abbrev pub kept_says : Kept → Says Kept
+kept_says k = if nat_le k.count 4096 then gives k else refused k.id
+
 -- ---- nodes
 
 abbrev pub node_of : ℕ → ℕ → List ℕ → Node

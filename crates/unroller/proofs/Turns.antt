@@ -1,5 +1,5 @@
 -- One turn of a loop over index values: numbers of 16 bits that are read back from their bits of 32.
-use mathlib.Core.Path.{◌≡◌, sym, ap, ap₂, ◌∙◌}
+use mathlib.Core.Path.{◌≡◌, sym, ap, ap₂, ◌∙◌, subst}
 use mathlib.Core.Bool.{Bool, true}
 use Prim.Native.Nat.{ℕ}
 use lib.IntN.{ℤ, pos, ◌+ℤ◌}
@@ -9,6 +9,13 @@ use mir.Facts.{to_z-of_z}
 use Rattle.model.proofs.Abs.{widens}
 use Rattle.unroller.specs.Run.{goes_on}
 use Rattle.unroller.proofs.Indices.{Place, place-step}
+
+-- what holds of the numbers read back holds of the numbers
+module _ (first last step : ℤ) (ff : SFits w16 first) (fl : SFits w16 last) (fs : SFits w16 step) where
+  pub turn-back : (P : ℤ → ℤ → ℤ → Type 0) → P (to_z w16 (of_z w16 step)) (to_z w16 (of_z w16 last)) (to_z w16 (of_z w16 first)) → P step last first
+  turn-back P h =
+      subst (λ (z : ℤ). P step last z) (to_z-of_z ff) (subst (λ (z : ℤ). P step z (to_z w16 (of_z w16 first))) (to_z-of_z fl)
+      (subst (λ (z : ℤ). P z (to_z w16 (of_z w16 last)) (to_z w16 (of_z w16 first))) (to_z-of_z fs) h))
 
 pub turn-wide : (v : ℤ) {x : ℤ} → SFits w16 v → x ≡ to_z w16 (of_z w16 v) → to_z w32 (of_z w32 x) ≡ v
 turn-wide v f e = ap (λ (z : ℤ). to_z w32 (of_z w32 z)) e ∙ to_z-of_z (widens f w32 tt) ∙ to_z-of_z f
