@@ -66,7 +66,7 @@ module _ (w : List ℕ) where
         by true f = sym f
         by false f = absurd (let g = check_is false f in let z : ◌≡◌ {A = ℕ} 0 1 = cc in omega arith)
 
-    says-refused : (k : ℕ) (s : model.Side) → Unroll.refuses s k 0 ≡ check_reply w → false ≡ accepted w
+    pub says-refused : (k : ℕ) (s : model.Side) → Unroll.refuses s k 0 ≡ check_reply w → false ≡ accepted w
     says-refused k s e = by (accepted w) refl
       where
         by : (b : Bool) → accepted w ≡ b → false ≡ accepted w

@@ -27,7 +27,7 @@ length-threes (x ∷ xs) h =
     length-append (padded 3 0 x.extents) (threes xs)
     ∙ let a : length (padded 3 0 x.extents) ≡ 3 = length-padded 3 0 x.extents h.0 in let b = length-threes xs h.1 in omega (arith, a, b)
 
-length-bases : (b : ℕ) (xs : List Array) → length (bases b xs) ≡ length xs + 1
+pub length-bases : (b : ℕ) (xs : List Array) → length (bases b xs) ≡ length xs + 1
 unfolding bases
 length-bases b [] = refl
 length-bases b (x ∷ xs) = let e = length-bases (b + cells x.extents) xs in omega (arith, e)
@@ -39,12 +39,12 @@ bases_snoc b (y ∷ xs) x =
     let e : b + (cells y.extents + sizes xs) + cells x.extents ≡ b + cells y.extents + sizes xs + cells x.extents = omega arith in
     rw e (ap (λ (l : List ℕ). b ∷ l) (bases_snoc (b + cells y.extents) xs x))
 
-sizes_snoc : (xs : List Array) (x : Array) → sizes xs + cells x.extents ≡ sizes (xs ++ (x ∷ []))
+pub sizes_snoc : (xs : List Array) (x : Array) → sizes xs + cells x.extents ≡ sizes (xs ++ (x ∷ []))
 unfolding sizes
 sizes_snoc [] x = omega arith
 sizes_snoc (y ∷ xs) x = let e = sizes_snoc xs x in omega (arith, e)
 
-small_snoc : (xs : List Array) (x : Array) → Small xs → length x.extents ≤ 3 → Small (xs ++ (x ∷ []))
+pub small_snoc : (xs : List Array) (x : Array) → Small xs → length x.extents ≤ 3 → Small (xs ++ (x ∷ []))
 unfolding Small
 small_snoc [] x h w = (w, tt)
 small_snoc (y ∷ xs) x h w = (h.0, small_snoc xs x h.1 w)

@@ -222,7 +222,7 @@ module _ (s : List ℕ) (n m : ℕ) (h : 98 ≤ length s) (en : n ≡ get_or s 0
   second : drop 17 s ≡ m ∷ drop 18 s
   second = rw em (at_one s 17 (omega arith))
 
-  head-count : 16 < n → tables s ≡ none
+  pub head-count : 16 < n → tables s ≡ none
   unfolding tables
   head-count l = start ∙ rw (within-high 0 16 n l)
 

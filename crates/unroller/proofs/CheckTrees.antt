@@ -31,12 +31,12 @@ module _ (reads : ℕ → ℕ → Bool) (x y : ℕ) where
   leaf_read code e true h = (cell x y, refl, λ ops f rest. rw (e, ← h))
   leaf_read code e false h = λ ops f rest. rw (e, ← h)
 
-  leaf_number : (code : ℕ) → code ≡ 18 → x < 4294967296 → (r : Bool) → r ≡ eqb y 0 → Leaf reads code x y r
+  pub leaf_number : (code : ℕ) → code ≡ 18 → x < 4294967296 → (r : Bool) → r ≡ eqb y 0 → Leaf reads code x y r
   unfolding node size
   leaf_number code e b true h = (number (to_z w32 x), refl, λ ops f rest. rw (e, lt-ltb _ _ b, ← h))
   leaf_number code e b false h = λ ops f rest. rw (e, lt-ltb _ _ b, ← h)
 
-  leaf_constant : (code : ℕ) → code ≡ 19 → x < 4294967296 → (r : Bool) → r ≡ eqb y 0 → Leaf reads code x y r
+  pub leaf_constant : (code : ℕ) → code ≡ 19 → x < 4294967296 → (r : Bool) → r ≡ eqb y 0 → Leaf reads code x y r
   unfolding node size
   leaf_constant code e b true h = (constant x, refl, λ ops f rest. rw (e, lt-ltb _ _ b, ← h))
   leaf_constant code e b false h = λ ops f rest. rw (e, lt-ltb _ _ b, ← h)
