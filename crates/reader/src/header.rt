@@ -156,22 +156,19 @@ fn array_at(s: &[u8], at: usize, after: bool, before: usize) -> Read<Array>
     Ok((array, end))
 }
 
-// One array more, as number k; `total` cells with it.
+// One array more, as number k; `total` cells with it. Lent: by value the tables, 300 bytes, are copied for each array.
 #[tactic(auto, unfolding(crate::specs::Parts::with_array))]
-fn with_array(tables: Tables, k: usize, x: Array, total: usize) -> Tables
+fn put_array(tables: &mut Tables, k: usize, x: Array, total: usize)
     requires { k < 16 }
-    ensures { result ≡ with_array «tables» k x total }
+    ensures { «tables».new ≡ with_array «tables».old k x total }
 {
-    let mut all = tables;
-    all.arrays = k + 1;
-    all.roles[k] = x.role;
-    all.dimensions[k] = x.dimensions;
-    let extents = x.extents;
-    all.extents[3 * k] = extents[0];
-    all.extents[3 * k + 1] = extents[1];
-    all.extents[3 * k + 2] = extents[2];
-    all.bases[k + 1] = total;
-    all
+    tables.arrays = k + 1;
+    tables.roles[k] = x.role;
+    tables.dimensions[k] = x.dimensions;
+    tables.extents[3 * k] = x.extents[0];
+    tables.extents[3 * k + 1] = x.extents[1];
+    tables.extents[3 * k + 2] = x.extents[2];
+    tables.bases[k + 1] = total;
 }
 
 // n arrays, put into tables that hold none.
@@ -187,7 +184,7 @@ fn arrays_at(s: &[u8], at: usize, n: usize, empty: Tables) -> Read<Tables>
     for k in 0..n {
         let (x, next) = array_at(s, place, after, before)?;
         before += x.size;
-        tables = with_array(tables, k, x, before);
+        put_array(&mut tables, k, x, before);
         after = x.role == 3;
         place = next;
     }

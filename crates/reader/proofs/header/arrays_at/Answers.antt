@@ -7,6 +7,6 @@ use Rattle.reader.proofs.header.arrays_at.Goals as goal
 
 pub loop-k-preserved : goal.loop-k-preserved
 loop-k-preserved c = let g = made-got array_in _ c.array_at.ensures.says c.in_ok-x.was in record {
-  says = arrays_more _ _ _ _ _ _ _ _ _ _ g.0 g.1 g.2 (omega arith) c.with_array-tables.ensures refl ∙ c.loop-k.invariant.says;
+  says = arrays_more _ _ _ _ _ _ _ _ _ _ g.0 g.1 g.2 (omega arith) c.put_array.ensures refl ∙ c.loop-k.invariant.says;
   most = omega (arith, c.in_ok-x.ensures.most);
 }
