@@ -9,17 +9,17 @@ loop-at-init c = (c.requires, counting_start c.args.list.now c.requires)
 pub returns-then-is_wide : goal.returns-then-is_wide
 returns-then-is_wide c =
     let l = c.loop-at in
-    counting_wide c.args.list.now l.invariant.0 l.at l.records l.updates l.bytes l.invariant.1 c.if-list-at-ne0.true (sym c.is_wide.ensures ∙ c.if-is_wide.true)
+    counting_wide c.args.list.now l.invariant.0 l.at l.records l.updates l.bytes l.invariant.1 (λ e. let h = c.if-list-at-ne0.true in omega arith) (sym c.is_wide.ensures ∙ c.if-is_wide.true)
 
 pub loop-at-preserved : goal.loop-at-preserved
 loop-at-preserved c =
     let l = c.loop-at in
-    (l.invariant.0, counting_step c.args.list.now l.invariant.0 l.at l.records l.updates l.bytes l.invariant.1 c.begin-updates.result c.size_of-bytes.result c.if-list-at-ne0.true (sym c.is_wide.ensures ∙ c.if-is_wide.false) c.begin-updates.ensures c.size_of-bytes.ensures)
+    (l.invariant.0, counting_step c.args.list.now l.invariant.0 l.at l.records l.updates l.bytes l.invariant.1 c.begin-updates.result c.size_of-bytes.result (λ e. let h = c.if-list-at-ne0.true in omega arith) (sym c.is_wide.ensures ∙ c.if-is_wide.false) c.begin-updates.ensures c.size_of-bytes.ensures)
 
 pub returns-else-list-at-ne0 : goal.returns-else-list-at-ne0
 returns-else-list-at-ne0 c =
     let l = c.loop-at in
-    counting_stop c.args.list.now l.invariant.0 l.at l.records l.updates l.bytes l.invariant.1 c.if-list-at-ne0.false
+    counting_stop c.args.list.now l.invariant.0 l.at l.records l.updates l.bytes l.invariant.1 (omega (arith, c.if-list-at-ne0.false))
 
 pub returns-after-loop-at : goal.returns-after-loop-at
 returns-after-loop-at c =
@@ -36,7 +36,7 @@ overflow_add-updates c =
 pub overflow_add-bytes : goal.overflow_add-bytes
 overflow_add-bytes c =
     let l = c.loop-at in
-    let k = counting_known c.args.list.now l.invariant.0 l.at l.records l.updates l.bytes l.invariant.1 c.if-list-at-ne0.true in
+    let k = counting_known c.args.list.now l.invariant.0 l.at l.records l.updates l.bytes l.invariant.1 (λ e. let h = c.if-list-at-ne0.true in omega arith) in
     let f = l.invariant.1.goes.small in
     let b = record-short c.args.list.now l.at k in
     omega arith

@@ -49,5 +49,5 @@ pub returns : goal.returns
 returns c =
     let all = let a = c.args in
     let p = c.requires in
-    cell_wrote a.list.now a.at _ _ refl refl c.write_cell.result a.out.now _ _ refl p.0 c.if-code-eq-LITERAL.false c.if-code-eq-CONSTANT.false c.if-code-eq-OPERATOR.false c.write_cell.ensures.long c.write_cell.ensures.frame in
+    cell_wrote a.list.now a.at _ _ refl refl c.write_cell.result a.out.now _ _ (omega arith) p.0 c.if-code-eq-LITERAL.false c.if-code-eq-CONSTANT.false c.if-code-eq-OPERATOR.false c.write_cell.ensures.long c.write_cell.ensures.frame in
     record { long = all.0; frame = all.1 }
