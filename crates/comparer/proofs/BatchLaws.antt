@@ -20,6 +20,9 @@ module _ (l r : ℕ) where
   pub both_fit : l ≤ 16384 → r ≤ 16384 → sizes l r ≡ sized l r
   both_fit h g = rw (le-leb l 16384 h, le-leb r 16384 g)
 
+  pub both_are : (m n : ℕ) → m ≡ l → n ≡ r → l ≤ 16384 → r ≤ 16384 → sizes m n ≡ sized l r
+  both_are m n e f h g = rw (e, f) (both_fit h g)
+
 -- their bytes
 pub no_byte : (s : List ℕ) → length s ≡ 0 → ended ≡ lengths_of s
 unfolding lengths_of

@@ -2,7 +2,7 @@ use Rattle.std.proofs.Common.{arith, refl, ap, ◌∙◌, Err}
 use Rattle.std.proofs.lemmas.Bool.Decides.{nat_tests}
 use Rattle.std.proofs.lemmas.Result.{err_from_is_err_and}
 use Rattle.comparer.specs.BatchSteps.{lengths_says}
-use Rattle.comparer.proofs.BatchLaws.{left_long, right_long, both_fit, no_byte, few_bytes, four_bytes}
+use Rattle.comparer.proofs.BatchLaws.{left_long, right_long, both_are, no_byte, few_bytes, four_bytes}
 use Rattle.comparer.proofs.batch.pair_lengths.Goals as goal
 
 pub returns-then-is_empty : goal.returns-then-is_empty
@@ -30,4 +30,4 @@ pub returns : goal.returns
 returns c =
     let l = c.in_ok-left.ensures.ok in
     let r = c.in_ok-right.ensures.ok in
-    four_bytes c.args.bytes.now c.in_ok-left.left c.in_ok-right.right _ (omega (arith, c.if-bytes-lt-LENGTHS_BYTES.false)) (omega (arith, l.0, c.pair.ensures)) (omega (arith, r.0, c.pair-2.ensures)) (both_fit _ _ (omega (arith, l.0, l.1)) (omega (arith, r.0, r.1)))
+    four_bytes c.args.bytes.now c.pair.result c.pair-2.result _ (omega (arith, c.if-bytes-lt-LENGTHS_BYTES.false)) (omega (arith, c.pair.ensures)) (omega (arith, c.pair-2.ensures)) (both_are _ _ _ _ (omega (arith, l.0, c.pair.ensures)) (omega (arith, r.0, c.pair-2.ensures)) l.1 r.1)
