@@ -81,6 +81,9 @@ pub spaced_adds : (line mid r : Line) (n : ℕ) → n < 18446744073709551616 →
 unfolding AddsNumber
 spaced_adds line mid r n h a b = adds_more line mid r (0x20 ∷ []) (decimal n) a (b 19 (omega arith))
 
+pub number_as : (line r : Line) (m n : ℕ) → AddsNumber line m r → m ≡ n → AddsNumber line n r
+number_as line r m n a e = subst (λ (k : ℕ). AddsNumber line k r) e a
+
 -- ---- a number of 16 signed bits
 module _ (line blank : Line) (z : ℤ) (fits : SFits w16 z) (n : ℕ) (size : n ≡ nat_abs z) (a : Adds line (0x20 ∷ []) blank) where
   pub signed_below : (dash r : Line) → lt_z z (pos 0) ≡ true → Adds blank (0x2D ∷ []) dash → AddsNumber dash n r → Adds line (spaced (signed z)) r
