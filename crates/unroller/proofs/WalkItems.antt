@@ -223,13 +223,13 @@ module _ (scope : Scope) (left less at : ℕ) (p : Progress) (l f : List ℕ) (f
           (u js next (length (bytes scope)) d (ap (body (tables scope) (length (bytes scope)) less scope.loops (bytes scope)) q.1 ∙ e2) (omega arith) l8 based h))
 
       module _ (n₀ : Result ℕ Refusal) (ends : place_says n₀ ≡ ended (items_step (tables scope) less scope.loops (bytes scope) to)) where
-        guard_lost : (g : Refusal) (l' f' : List ℕ) → n₀ ≡ Err g → RunsNested scope at 3 left p l f (Err g) l' f'
+        pub guard_lost : (g : Refusal) (l' f' : List ℕ) → n₀ ≡ Err g → RunsNested scope at 3 left p l f (Err g) l' f'
         unfolding RunsNested Values
         guard_lost g l' f' case₁ i next d e b8 l8 based h = guard_by (bytes scope) (tables scope) left less scope.loops at fewer e λ g mid js e1 e2 x.
             let q = values_some v₀ (w₀ g mid e1 (omega arith) l8) case in
             passes_not (bytes scope) to (tables scope) less scope.loops n₀ ends (ap (body (tables scope) (length (bytes scope)) less scope.loops (bytes scope)) q.1 ∙ e2) (omega arith) case₁
 
-        guard_passes : (n : ℕ) → lt_z v (pos 0) ≡ true → n₀ ≡ Ok n → RunsNested scope at 3 left p l f (Ok (n, p)) l f
+        pub guard_passes : (n : ℕ) → lt_z v (pos 0) ≡ true → n₀ ≡ Ok n → RunsNested scope at 3 left p l f (Ok (n, p)) l f
         unfolding RunsNested Values run guarded
         guard_passes n z case₁ i next d e b8 l8 based h = guard_by (bytes scope) (tables scope) left less scope.loops at fewer e λ g mid js e1 e2 x.
             let q = values_some v₀ (w₀ g mid e1 (omega arith) l8) case in
@@ -295,11 +295,11 @@ module _ (scope : Scope) (at from left : ℕ) where
     rounds-found n g k js next d e b8 l8 found based h = rw (indices_none most step last index g) (found n k, h)
 
     module _ (n₀ : Result ℕ Refusal) (ends : place_says n₀ ≡ ended (items_step (tables scope) left (scope.loops + 1) (bytes scope) from)) where
-      rounds_lost : (g : Refusal) (l' f' : List ℕ) → n₀ ≡ Err g → RunsRounds scope at from left step last most index past p l f (Err g) l' f'
+      pub rounds_lost : (g : Refusal) (l' f' : List ℕ) → n₀ ≡ Err g → RunsRounds scope at from left step last most index past p l f (Err g) l' f'
       unfolding RunsRounds
       rounds_lost g l' f' case js next d e b8 l8 found based h = passes_not (bytes scope) from (tables scope) left (scope.loops + 1) n₀ ends e (omega arith) case
 
-      rounds_none : (n : ℕ) → goes_on step last index ≡ false → n₀ ≡ Ok n → RunsRounds scope at from left step last most index past p l f (Ok (n, p)) l f
+      pub rounds_none : (n : ℕ) → goes_on step last index ≡ false → n₀ ≡ Ok n → RunsRounds scope at from left step last most index past p l f (Ok (n, p)) l f
       unfolding RunsRounds rounds
       rounds_none n g case js next d e b8 l8 found based h = rw (indices_none most step last index g) (passes_on (bytes scope) from (tables scope) left (scope.loops + 1) n₀ ends e (omega arith) case, h)
 
